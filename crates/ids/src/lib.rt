@@ -1,0 +1,30 @@
+// The four kinds of number that look alike on paper (document 01, 'The register'), each a type of its own, so that
+// one given in another's place does not build.
+ghost use mathlib.Core.Path.{_≡_};
+ghost use lib.Dec.{eqb};
+
+// A login, numbered from 0.
+pub struct LoginNo(pub u16);
+
+// A folder, numbered from 0.
+pub struct FolderNo(pub u16);
+
+// A client; 0 is the client of a sanitised folder.
+pub struct ClientNo(pub u16);
+
+// A class of clients in competition; 0 is the class of a sanitised folder.
+pub struct ClassNo(pub u16);
+
+// Whether two folders' clients are one client.
+pub fn same_client(a: ClientNo, b: ClientNo) -> bool
+    ensures { λ r. ⌜ r ≡ eqb (a .0) (b .0) ⌝ }
+{
+    a.0 == b.0
+}
+
+// Whether two folders' classes are one class.
+pub fn same_class(a: ClassNo, b: ClassNo) -> bool
+    ensures { λ r. ⌜ r ≡ eqb (a .0) (b .0) ⌝ }
+{
+    a.0 == b.0
+}
