@@ -1,0 +1,2 @@
+pub mod Those
+pub mod Judge
