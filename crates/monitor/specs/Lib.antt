@@ -1,0 +1,5 @@
+pub mod Rules
+pub mod Outcome
+pub mod Wall
+pub mod History
+pub mod Demand3

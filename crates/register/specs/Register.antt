@@ -1,0 +1,71 @@
+-- The register and the rows of the refusal table that judge it (document 01, 'The register' and 'Where each refusal is checked').
+use Prim.Native.Nat.{ℕ}
+use mathlib.Core.Path.{_≡_}
+use mathlib.Core.Bool.{Bool, true, false, not, _&&_}
+use mathlib.Core.List.{List, [], _∷_, _++_}
+use lib.ListN.{length, getD}
+use lib.Dec.{leb, eqb}
+use Rattle.vocabulary.specs.Answer.{Answer, Check, answer, check, judge}
+use Rattle.vocabulary.specs.Those.{those, some, smallest}
+
+-- The register: the number of logins, and each folder's class and client in folder order.
+pub record Register : Type 0 where
+  -- P
+  pub logins : ℕ
+  pub classes : List ℕ
+  pub clients : List ℕ
+
+-- F, the number of folders.
+abbrev pub folders : Register → ℕ
+folders r = length (r .classes)
+
+abbrev pub classOf : Register → ℕ → ℕ
+classOf r f = getD (r .classes) f 0
+
+abbrev pub clientOf : Register → ℕ → ℕ
+clientOf r f = getD (r .clients) f 0
+
+-- A sanitised folder: client 0 with class 0. Refusal 2 keeps either 0 from standing without the other, so the client alone tells.
+abbrev pub sanitised : Register → ℕ → Bool
+sanitised r f = eqb (clientOf r f) 0
+
+-- Refusal 1: P or F beyond its range, or lists of unequal length.
+abbrev pub inRange : Register → Bool
+inRange r = leb 1 (r .logins) && leb (r .logins) 128 && leb 1 (folders r) && leb (folders r) 512 && eqb (folders r) (length (r .clients))
+
+-- Exactly one of two tests holds.
+abbrev pub exactlyOne : Bool → Bool → Bool
+exactlyOne true b = not b
+exactlyOne false b = b
+
+-- Refusal 2: exactly one of class and client is 0.
+abbrev pub loneZero : Register → ℕ → Bool
+loneZero r f = exactlyOne (eqb (classOf r f) 0) (eqb (clientOf r f) 0)
+
+-- Refusal 3: folder g is of f's client and has another class.
+abbrev pub differs : Register → ℕ → ℕ → Bool
+differs r f g = eqb (clientOf r g) (clientOf r f) && not (eqb (classOf r g) (classOf r f))
+
+-- The earlier folders from which f differs so.
+unfoldable pub earlier : Register → ℕ → List ℕ
+earlier r f = those (differs r f) f
+
+-- The folders that differ so from an earlier one.
+unfoldable pub later : Register → List ℕ
+later r = those (λ f. some (earlier r f)) (folders r)
+
+-- The table's rows for the register. Refusal 2 is sought through the whole register before 3.
+unfoldable pub registerChecks : Register → List Check
+registerChecks r =
+    check (not (inRange r)) 1 []
+    ∷ check (some (those (loneZero r) (folders r))) 2 (smallest (those (loneZero r) (folders r)) ∷ [])
+    ∷ check (some (later r)) 3 (smallest (later r) ∷ smallest (earlier r (smallest (later r))) ∷ [])
+    ∷ []
+
+-- The register check: 0 is 'accepted'.
+unfoldable pub registerAnswer : Register → Answer
+registerAnswer r = judge (registerChecks r) (answer 0 [])
+
+-- 'A register is accepted if the register check refuses nothing.'
+abbrev pub Accepted : Register → Type 0
+Accepted r = registerAnswer r .number ≡ 0

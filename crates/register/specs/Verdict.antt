@@ -1,0 +1,12 @@
+-- The register check's answers, by document 01's numbers.
+use Prim.Native.Nat.{ℕ}
+use mathlib.Core.List.{List, [], _∷_}
+use Rattle.vocabulary.specs.Answer.{Answer, answer}
+use Rattle.register.specs.declared.Verdict.{Verdict}
+use Rattle.register.specs.declared.Verdict.the-variants.{Accepted, OutOfRange, LoneZero, TwoClasses}
+
+abbrev pub verdictAnswer : Verdict → Answer
+verdictAnswer Accepted = answer 0 []
+verdictAnswer OutOfRange = answer 1 []
+verdictAnswer (LoneZero f) = answer 2 (f .0 ∷ [])
+verdictAnswer (TwoClasses f g) = answer 3 (f .0 ∷ g .0 ∷ [])
