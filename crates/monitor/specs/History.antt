@@ -12,7 +12,7 @@ use Rattle.monitor.specs.Wall.{Rights, noRights, afterGrant, Held, atFir
 -- A step: a request, with any log handed to it, or a use.
 pub data Step : Type 0 where
   ask : Request → Log → Step
-  use : Use → Step
+  make : Use → Step
 
 -- Where a history stands: the matrix, the rights that stand by the answers given, and what is held.
 pub record State : Type 1 where
@@ -23,10 +23,11 @@ pub record State : Type 1 where
 -- 'Blank means all 0.'
 abbrev pub blank : Register → State
 blank r =
-    record
-      { matrix = replicate (r .logins * folders r) 0
-      ; rights = noRights
-      ; held = atFirst (classWall r) }
+    record {
+      matrix = replicate (r .logins * folders r) 0;
+      rights = noRights;
+      held = atFirst (classWall r);
+    }
 
 -- The rights that stand after an answer to a request: only a grant, number 0, moves them.
 abbrev pub rightsAfter : Rights → Request → Answer → Rights
@@ -36,15 +37,17 @@ rightsAfter k q a =
 -- One step. 'A request, whatever its answer, moves nothing held.'
 unfoldable pub next : Register → State → Step → State
 next r σ (ask q log) =
-    record
-      { matrix = outcome r (σ .matrix) q log .matrix
-      ; rights = rightsAfter (σ .rights) q (outcome r (σ .matrix) q log .answer)
-      ; held = σ .held }
-next r σ (use u) =
-    record
-      { matrix = σ .matrix
-      ; rights = σ .rights
-      ; held = used (σ .rights) u (σ .held) }
+    record {
+      matrix = outcome r (σ .matrix) q log .matrix;
+      rights = rightsAfter (σ .rights) q (outcome r (σ .matrix) q log .answer);
+      held = σ .held;
+    }
+next r σ (make u) =
+    record {
+      matrix = σ .matrix;
+      rights = σ .rights;
+      held = used (σ .rights) u (σ .held);
+    }
 
 -- A list of steps, the first first.
 unfoldable pub run : Register → State → List Step → State

@@ -3,3 +3,4 @@ pub mod Outcome
 pub mod Wall
 pub mod History
 pub mod Demand3
+pub mod Session

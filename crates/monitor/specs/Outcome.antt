@@ -71,29 +71,32 @@ isLogged a = eqb (a .number) 0 || eqb (a .number) 20 || eqb (a .number) 21 || eq
 -- The record of a decision. 'After a refusal the count is 1 and the number is the folder carried.'
 abbrev pub recordOf : Request → ℕ → Answer → Record
 recordOf q serial a =
-    record
-      { serial = serial
-      ; login = q .login
-      ; folder = q .folder
-      ; kind = q .kind
-      ; answer = a .number
-      ; list = a .carried }
+    record {
+      serial = serial;
+      login = q .login;
+      folder = q .folder;
+      kind = q .kind;
+      answer = a .number;
+      list = a .carried;
+    }
 
 -- The log with bytes appended: 'log bytes outside the new record stay'.
 abbrev pub appended : Log → List ℕ → Log
 appended log new =
-    record
-      { bytes = sets (log .bytes) (log .end) new
-      ; end = log .end + length new
-      ; serial = following 65536 (log .serial) }
+    record {
+      bytes = sets (log .bytes) (log .end) new;
+      end = log .end + length new;
+      serial = following 65536 (log .serial);
+    }
 
 -- 'Numbers 1 to 19 and 30 change no byte, and return end and serial as they came.'
 abbrev pub unchanged : Answer → List ℕ → Log → Outcome
 unchanged a matrix log =
-    record
-      { answer = a
-      ; matrix = matrix
-      ; log = log }
+    record {
+      answer = a;
+      matrix = matrix;
+      log = log;
+    }
 
 -- 'A grant changes the row': the matrix after a decision.
 abbrev pub matrixAfter : Register → List ℕ → Request → Answer → List ℕ
@@ -108,10 +111,11 @@ logged r matrix q log a =
     let new : List ℕ = recordBytes (recordOf q (log .serial) a) in
     cond (ltb (length (log .bytes) - log .end) (length new))
     (unchanged (answer 30 []) matrix log)
-    (record
-      { answer = a
-      ; matrix = matrixAfter r matrix q a
-      ; log = appended log new })
+    (record {
+      answer = a;
+      matrix = matrixAfter r matrix q a;
+      log = appended log new;
+    })
 
 -- The outcome of a request.
 unfoldable pub outcome : Register → List ℕ → Request → Log → Outcome

@@ -27,9 +27,10 @@ pub record Rights : Type 0 where
 
 abbrev pub noRights : Rights
 noRights =
-    record
-      { read = λ s f. false
-      ; write = λ s f. false }
+    record {
+      read = λ s f. false;
+      write = λ s f. false;
+    }
 
 -- Whether (t, f) is the login and folder (s, o) asked for.
 abbrev pub asked : ℕ → ℕ → ℕ → ℕ → Bool
@@ -38,17 +39,19 @@ asked s o t f = eqb t s && eqb f o
 -- 'The asked right on o is read for kinds 1 and 2, write for 3, both for 4', joined to the rights that stand.
 abbrev pub joined : Rights → ℕ → ℕ → ℕ → Rights
 joined k s o kind =
-    record
-      { read = λ t f. k .read t f || (asked s o t f && reads kind)
-      ; write = λ t f. k .write t f || (asked s o t f && writes kind) }
+    record {
+      read = λ t f. k .read t f || (asked s o t f && reads kind);
+      write = λ t f. k .write t f || (asked s o t f && writes kind);
+    }
 
 -- 'The read right of s on o stands once a request of s for o, of kind 1, 2 or 4, was granted; the write right stands from a grant
 -- of kind 3 or 4 until a later grant to s lists o as lost': the rights after a grant to s for o that lists these folders as lost.
 abbrev pub afterGrant : Rights → ℕ → ℕ → ℕ → List ℕ → Rights
 afterGrant k s o kind list =
-    record
-      { read = λ t f. k .read t f || (asked s o t f && reads kind)
-      ; write = λ t f. (k .write t f && not (eqb t s && member f list)) || (asked s o t f && writes kind) }
+    record {
+      read = λ t f. k .read t f || (asked s o t f && reads kind);
+      write = λ t f. (k .write t f && not (eqb t s && member f list)) || (asked s o t f && writes kind);
+    }
 
 -- ---- what is held
 
@@ -60,9 +63,10 @@ pub record Held : Type 1 where
 -- 'At first a folder holds its own client; a sanitised folder and a login hold none.'
 abbrev pub atFirst : Wall → Held
 atFirst w =
-    record
-      { login = λ s c. ⊥
-      ; folder = λ f c. Own w f c }
+    record {
+      login = λ s c. ⊥;
+      folder = λ f c. Own w f c;
+    }
 
 -- A use of a right: a reading or a writing of a folder by a login.
 pub data Use : Type 0 where
@@ -72,13 +76,15 @@ pub data Use : Type 0 where
 -- 'A reading of o by s adds all that o holds to s, a writing all that s holds to o; without its right standing it does nothing.'
 unfoldable pub used : Rights → Use → Held → Held
 used k (reading s o) h =
-    record
-      { login = λ t c. h .login t c ⊎ ((t ≡ s) × (k .read s o ≡ true) × h .folder o c)
-      ; folder = h .folder }
+    record {
+      login = λ t c. h .login t c ⊎ ((t ≡ s) × (k .read s o ≡ true) × h .folder o c);
+      folder = h .folder;
+    }
 used k (writing s o) h =
-    record
-      { login = h .login
-      ; folder = λ f c. h .folder f c ⊎ ((f ≡ o) × (k .write s o ≡ true) × h .login s c) }
+    record {
+      login = h .login;
+      folder = λ f c. h .folder f c ⊎ ((f ≡ o) × (k .write s o ≡ true) × h .login s c);
+    }
 
 -- ---- the wall broken
 
@@ -107,8 +113,8 @@ pub record Breaks (w : Wall) (k : Rights) (h : Held) (s : ℕ) : Type 0 where
   pub first : ℕ
   pub second : ℕ
   pub breaks :
-    Broken w (used k (reading s second) (used k (reading s first) h))
-    ⊎ Broken w (used k (writing s second) (used k (reading s first) h))
+      Broken w (used k (reading s second) (used k (reading s first) h))
+      ⊎ Broken w (used k (writing s second) (used k (reading s first) h))
 
 -- A refusal to s of folder o is needful.
 abbrev pub Needful : Wall → Rights → Held → ℕ → ℕ → ℕ → Type 0
@@ -129,6 +135,7 @@ pub record OneClass (r : Register) (c d : ℕ) : Type 0 where
 
 abbrev pub classWall : Register → Wall
 classWall r =
-    record
-      { own = clientOf r
-      ; conflict = OneClass r }
+    record {
+      own = clientOf r;
+      conflict = OneClass r;
+    }

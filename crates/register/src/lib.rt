@@ -1,5 +1,7 @@
 // The register check (document 01, 'The register').
-use ids::{ClassNo, ClientNo, FolderNo};
+use ids::ClassNo;
+use ids::ClientNo;
+use ids::FolderNo;
 
 // The register check's answer.
 pub enum Verdict {
