@@ -1,2 +1,3 @@
 pub mod Those
 pub mod Judge
+pub mod Bools
