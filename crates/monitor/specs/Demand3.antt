@@ -9,14 +9,18 @@ use Rattle.vocabulary.specs.Answer.{Answer}
 use Rattle.register.specs.Register.{Register, Accepted, folders}
 use Rattle.monitor.specs.Rules.{rowOf, cell, cellFor}
 use Rattle.monitor.specs.Outcome.{Request, Log, outcome}
-use Rattle.monitor.specs.Wall.{Broken, Needful, classWall}
+use Rattle.monitor.specs.Wall.{Rights, Broken, Needful, classWall}
 use Rattle.monitor.specs.History.{Step, ask, State, blank, run}
+
+-- The cell of the rights that stand of s on f.
+abbrev pub cellStanding : Rights → ℕ → ℕ → ℕ
+cellStanding k s f = cellFor (k .read s f) (k .write s f)
 
 -- 'After every list the matrix shows just these rights': it has its P times F cells, and every cell is that of the rights that stand.
 -- (A login or folder out of range has no cell: it is read as 0, and no right stands.)
 pub record Shows (r : Register) (σ : State) : Type 0 where
   pub whole : length (σ .matrix) ≡ r .logins * folders r
-  pub cells : (s f : ℕ) → cell (rowOf r (σ .matrix) s) f ≡ cellFor (σ .rights .read s f) (σ .rights .write s f)
+  pub cells : (s f : ℕ) → cell (rowOf r (σ .matrix) s) f ≡ cellStanding (σ .rights) s f
 
 -- 20, 21 or 22.
 abbrev pub byWall : Answer → Bool

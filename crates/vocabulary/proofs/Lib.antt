@@ -1,3 +1,4 @@
 pub mod Those
 pub mod Judge
 pub mod Bools
+pub mod Each
