@@ -35,6 +35,13 @@ module _ (r : Register) (ok : Accepted r) where
   pub class-zero : (f : ℕ) → f < folders r → classOf r f ≡ 0 → clientOf r f ≡ 0
   class-zero f h e = eqb-true (clientOf r f) 0 (not-false (eqb (clientOf r f) 0) (rw (eq-eqb (classOf r f) 0 e) at (zeros f h)))
 
+  pub client-zero : (f : ℕ) → f < folders r → clientOf r f ≡ 0 → classOf r f ≡ 0
+  client-zero f h e =
+      elim (ℕ-discrete (classOf r f) 0) [
+        | yes z ↦ z
+        | no z ↦ not-both (eq-eqb (clientOf r f) 0 e) (rw (ne-eqb (classOf r f) 0 z) at (zeros f h))
+      ]
+
   -- Refusal 3 passed: no folder differs in class from an earlier one of its client.
   alike : (f g : ℕ) → f < folders r → g < f → differs r f g ≡ false
   unfolding registerChecks later earlier
@@ -51,24 +58,27 @@ module _ (r : Register) (ok : Accepted r) where
   -- Two folders of one client have one class.
   pub one-class : (f g : ℕ) → f < folders r → g < folders r → clientOf r f ≡ clientOf r g → classOf r f ≡ classOf r g
   one-class f g h i e =
-      elim (decLt f g)
-      [ yes j ↦ alike-class g f i j e
-      | no j ↦ elim (ℕ-discrete f g) [ yes k ↦ ap (classOf r) k | no k ↦ sym (alike-class f g h (omega arith) (sym e)) ] ]
+      elim (decLt f g) [
+        | yes j ↦ alike-class g f i j e
+        | no j ↦ elim (ℕ-discrete f g) [ yes k ↦ ap (classOf r) k | no k ↦ sym (alike-class f g h (omega arith) (sym e)) ]
+      ]
 
   pub lawful : Lawful (classWall r)
   lawful =
-      record
-        { irreflexive = λ c p. p .two refl
-        ; symmetric = λ c d p.
-          record
-            { one = p .other
-            ; other = p .one
-            ; one-known = p .other-known
-            ; other-known = p .one-known
-            ; one-client = p .other-client
-            ; other-client = p .one-client
-            ; one-class = sym (p .one-class)
-            ; two = λ e. p .two (sym e) } }
+      record {
+        irreflexive = λ c p. p .two refl;
+        symmetric = λ c d p.
+            record {
+              one = p .other;
+              other = p .one;
+              one-known = p .other-known;
+              other-known = p .one-known;
+              one-client = p .other-client;
+              other-client = p .one-client;
+              one-class = sym (p .one-class);
+              two = λ e. p .two (sym e);
+            };
+      }
 
   -- Clients in conflict: the classes of any two folders of theirs are one.
   pub conflict-class : (f g : ℕ) → f < folders r → g < folders r → OneClass r (clientOf r f) (clientOf r g) → classOf r f ≡ classOf r g

@@ -3,4 +3,5 @@ pub mod Accepted
 pub mod Rows
 pub mod Outcome
 pub mod Shown
+pub mod Demand3
 pub mod Session

@@ -22,14 +22,20 @@ early-silent : (r : Register) (m : List ℕ) (q : Request) (log : Log) (x : Answ
 unfolding registerChecks requestChecks
 early-silent r m q log x e =
     ⊎-elim
-    (λ a. ⊎-elim (λ b. ⊎-elim (silent 0 refl) (silent 20 refl) (either (eqb n 0) (eqb n 20) b)) (silent 21 refl) (either (eqb n 0 || eqb n 20) (eqb n 21) a))
+    (silent 0 refl)
+    (λ a.
+    ⊎-elim
+    (λ b. ⊎-elim (silent 20 refl) (silent 21 refl) (either (eqb n 20) (eqb n 21) b))
     (silent 22 refl)
-    (either (eqb n 0 || eqb n 20 || eqb n 21) (eqb n 22) e)
+    (either (eqb n 20 || eqb n 21) (eqb n 22) a))
+    (either (eqb n 0) (eqb n 20 || eqb n 21 || eqb n 22) e)
   where
     table : List Check
     table = registerChecks r ++ requestChecks r m q log
+
     n : ℕ
     n = judge table x .number
+
     silent : (k : ℕ) → noneSays k table ≡ true → eqb n k ≡ true → Passed table × (judge table x ≡ x)
     silent k none e = judge-silent table x k none (eqb-true n k e)
 
@@ -77,7 +83,8 @@ module _ (r : Register) (m : List ℕ) (q : Request) (log : Log) where
           let d = decision-logged f in
           let k = outcome-kept f g in
           inl
-          (record
-            { passed = d .0
-            ; answered = k .0 ∙ d .1
-            ; left = k .1 ∙ ap (matrixAfter r m q) (d .1) })
+          (record {
+            passed = d .0;
+            answered = k .0 ∙ d .1;
+            left = k .1 ∙ ap (matrixAfter r m q) (d .1);
+          })

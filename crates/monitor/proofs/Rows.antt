@@ -62,9 +62,10 @@ module _ (r : Register) (m : List ℕ) (whole : length m ≡ r .logins * folders
 
     pub rowOf-withRow-other : (t : ℕ) → (t ≡ s → ⊥) → rowOf r (withRow r m s row) t ≡ rowOf r m t
     rowOf-withRow-other t d =
-        elim (decLt t s)
-        [ yes h ↦ patch-before m row (s * folders r) (folders r) within full (t * folders r) (row-fits t s (folders r) h)
-        | no h ↦ ap (take (folders r)) (patch-after m row (s * folders r) (folders r) within full (t * folders r) (row-fits' h)) ]
+        elim (decLt t s) [
+          | yes h ↦ patch-before m row (s * folders r) (folders r) within full (t * folders r) (row-fits t s (folders r) h)
+          | no h ↦ ap (take (folders r)) (patch-after m row (s * folders r) (folders r) within full (t * folders r) (row-fits' h))
+        ]
       where
         row-fits' : (t < s → ⊥) → s * folders r + folders r ≤ t * folders r
         row-fits' h = row-fits s t (folders r) (omega arith)

@@ -42,21 +42,24 @@ cell-out r m s f h = List·getD-eq-default (rowOf r m s) 0 (rw length-take (omeg
 
 cell-blank : (r : Register) (n s f : ℕ) → cell (rowOf r (replicate n 0) s) f ≡ 0
 cell-blank r n s f =
-    elim (decLt f (folders r))
-    [ yes h ↦ rw (getD-take {A = ℕ} (folders r) (drop (s * folders r) (replicate n 0)) f 0 h, getD-drop) (zeros (s * folders r + f))
-    | no h ↦ cell-out r (replicate n 0) s f (omega arith) ]
+    elim (decLt f (folders r)) [
+      | yes h ↦ rw (getD-take {A = ℕ} (folders r) (drop (s * folders r) (replicate n 0)) f 0 h, getD-drop) (zeros (s * folders r + f))
+      | no h ↦ cell-out r (replicate n 0) s f (omega arith)
+    ]
   where
     zeros : (i : ℕ) → getD {A = ℕ} (replicate n 0) i 0 ≡ 0
     zeros i =
-        elim (decLt i n)
-        [ yes h ↦ getD-replicate n i 0 0 h
-        | no h ↦ List·getD-eq-default (replicate n 0) 0 (rw length-replicate (omega arith)) ]
+        elim (decLt i n) [
+          | yes h ↦ getD-replicate n i 0 0 h
+          | no h ↦ List·getD-eq-default (replicate n 0) 0 (rw length-replicate (omega arith))
+        ]
 
 pub blank-shown : (r : Register) → Shows r (blank r)
 blank-shown r =
-    record
-      { whole = length-replicate (r .logins * folders r) 0
-      ; cells = λ s f. cell-blank r (r .logins * folders r) s f }
+    record {
+      whole = length-replicate (r .logins * folders r) 0;
+      cells = λ s f. cell-blank r (r .logins * folders r) s f;
+    }
 
 -- ---- what the matrix shows
 
@@ -70,15 +73,17 @@ module _ (r : Register) (σ : State) (shown : Shows r σ) where
   -- A right stands only on a folder of the register.
   pub read-known : (s f : ℕ) → σ .rights .read s f ≡ true → f < folders r
   read-known s f e =
-      elim (decLt f (folders r))
-      [ yes h ↦ h
-      | no h ↦ not-both e (sym (shown-read s f) ∙ ap canRead (cell-out r (σ .matrix) s f (omega arith))) ]
+      elim (decLt f (folders r)) [
+        | yes h ↦ h
+        | no h ↦ not-both e (sym (shown-read s f) ∙ ap canRead (cell-out r (σ .matrix) s f (omega arith)))
+      ]
 
   pub write-known : (s f : ℕ) → σ .rights .write s f ≡ true → f < folders r
   write-known s f e =
-      elim (decLt f (folders r))
-      [ yes h ↦ h
-      | no h ↦ not-both e (sym (shown-write s f) ∙ ap canWrite (cell-out r (σ .matrix) s f (omega arith))) ]
+      elim (decLt f (folders r)) [
+        | yes h ↦ h
+        | no h ↦ not-both e (sym (shown-write s f) ∙ ap canWrite (cell-out r (σ .matrix) s f (omega arith)))
+      ]
 
   -- ---- after a grant to s for o
 
@@ -108,9 +113,10 @@ module _ (r : Register) (σ : State) (shown : Shows r σ) where
     cell-after : (f : ℕ) → cell (rowAfter r row o kind) f ≡ cellStanding after s f
     unfolding rowAfter
     cell-after f =
-        elim (decLt f (folders r))
-        [ yes h ↦ getD-each (cellAfter r row o kind) row f 0 (rw (length-rowOf r (σ .matrix) (shown .whole) s known) h) ∙ cell-inside f h
-        | no h ↦ List·getD-eq-default (rowAfter r row o kind) 0 (rw length-after (omega arith)) ∙ cell-outside f (omega arith) ]
+        elim (decLt f (folders r)) [
+          | yes h ↦ getD-each (cellAfter r row o kind) row f 0 (rw (length-rowOf r (σ .matrix) (shown .whole) s known) h) ∙ cell-inside f h
+          | no h ↦ List·getD-eq-default (rowAfter r row o kind) 0 (rw length-after (omega arith)) ∙ cell-outside f (omega arith)
+        ]
 
     -- After a grant the matrix shows the rights that then stand.
     pub grant-length : length (withRow r (σ .matrix) s (rowAfter r row o kind)) ≡ r .logins * folders r
@@ -118,8 +124,9 @@ module _ (r : Register) (σ : State) (shown : Shows r σ) where
 
     pub grant-cells : (t f : ℕ) → cell (rowOf r (withRow r (σ .matrix) s (rowAfter r row o kind)) t) f ≡ cellStanding after t f
     grant-cells t f =
-        elim (ℕ-discrete t s)
-        [ yes e ↦ rw (e, rowOf-withRow r (σ .matrix) (shown .whole) s known (rowAfter r row o kind) length-after) (cell-after f)
-        | no d ↦
-          ap (λ (l : List ℕ). cell l f) (rowOf-withRow-other r (σ .matrix) (shown .whole) s known (rowAfter r row o kind) length-after t d)
-          ∙ (shown .cells t f ∙ cell-other t f d) ]
+        elim (ℕ-discrete t s) [
+          | yes e ↦ rw (e, rowOf-withRow r (σ .matrix) (shown .whole) s known (rowAfter r row o kind) length-after) (cell-after f)
+          | no d ↦
+              ap (λ (l : List ℕ). cell l f) (rowOf-withRow-other r (σ .matrix) (shown .whole) s known (rowAfter r row o kind) length-after t d)
+              ∙ (shown .cells t f ∙ cell-other t f d)
+        ]

@@ -38,21 +38,24 @@ unbroken w k h clean kept = ⊎-elim two strayed
         let a = kept .from-read (t .login) (t .one) (t .holds-one) in
         let b = kept .from-read (t .login) (t .other) (t .holds-other) in
         clean .apart (t .login) (a .0) (b .0) (a .1) (b .1) (rw (a .2 .0, b .2 .0) at (t .in-conflict))
+
     strayed : Strayed w h → ⊥
     strayed t = t .not-own (kept .own-only (t .folder) (t .client) (t .holds))
 
 pub used-kept : (w : Wall) (k : Rights) (h : Held) (u : Use) → Clean w k → Contained w k h → Contained w k (used k u h)
 unfolding used
 used-kept w k h (reading s o) clean kept =
-    record
-      { own-only = kept .own-only
-      ; own-held = kept .own-held
-      ; from-read = λ t c. ⊎-elim (kept .from-read t c) (λ n. (o, rw (n .0) (n .1), kept .own-only o c (n .2))) }
+    record {
+      own-only = kept .own-only;
+      own-held = kept .own-held;
+      from-read = λ t c. ⊎-elim (kept .from-read t c) (λ n. (o, rw (n .0) (n .1), kept .own-only o c (n .2)));
+    }
 used-kept w k h (writing s o) clean kept =
-    record
-      { own-only = λ f c. ⊎-elim (kept .own-only f c) (λ n. rw (n .0) (carried c (n .1) (kept .from-read s c (n .2))))
-      ; own-held = λ f c p. inl (kept .own-held f c p)
-      ; from-read = kept .from-read }
+    record {
+      own-only = λ f c. ⊎-elim (kept .own-only f c) (λ n. rw (n .0) (carried c (n .1) (kept .from-read s c (n .2))));
+      own-held = λ f c p. inl (kept .own-held f c p);
+      from-read = kept .from-read;
+    }
   where
     carried : (c : ℕ) → k .write s o ≡ true → (f : ℕ) × (k .read s f ≡ true) × Own w f c → Own w o c
     carried c may a =
@@ -61,10 +64,11 @@ used-kept w k h (writing s o) clean kept =
 -- More read rights leave what is held within the rights.
 pub more-kept : (w : Wall) (k k' : Rights) (h : Held) → ((s f : ℕ) → k .read s f ≡ true → k' .read s f ≡ true) → Contained w k h → Contained w k' h
 more-kept w k k' h more kept =
-    record
-      { own-only = kept .own-only
-      ; own-held = kept .own-held
-      ; from-read = λ s c p. let a = kept .from-read s c p in (a .0, more s (a .0) (a .1), a .2) }
+    record {
+      own-only = kept .own-only;
+      own-held = kept .own-held;
+      from-read = λ s c p. let a = kept .from-read s c p in (a .0, more s (a .0) (a .1), a .2);
+    }
 
 -- ---- a grant
 
@@ -86,10 +90,11 @@ asked-true : (s o t f : ℕ) (right : Bool) → (asked s o t f && right) ≡ tru
 asked-true s o t f right e =
     let a = both (eqb t s && eqb f o) right e in
     let b = both (eqb t s) (eqb f o) (a .0) in
-    record
-      { login = eqb-true t s (b .0)
-      ; folder = eqb-true f o (b .1)
-      ; given = a .1 }
+    record {
+      login = eqb-true t s (b .0);
+      folder = eqb-true f o (b .1);
+      given = a .1;
+    }
 
 -- A write right that a grant leaves.
 record Left (k : Rights) (s t f : ℕ) (list : List ℕ) : Type 0 where
@@ -99,9 +104,10 @@ record Left (k : Rights) (s t f : ℕ) (list : List ℕ) : Type 0 where
 left-true : (k : Rights) (s t f : ℕ) (list : List ℕ) → (k .write t f && not (eqb t s && member f list)) ≡ true → Left k s t f list
 left-true k s t f list e =
     let a = both (k .write t f) (not (eqb t s && member f list)) e in
-    record
-      { stood = a .0
-      ; unlisted = λ i. rw (i, eqb-self s) at (not-true (eqb t s && member f list) (a .1)) }
+    record {
+      stood = a .0;
+      unlisted = λ i. rw (i, eqb-self s) at (not-true (eqb t s && member f list) (a .1));
+    }
 
 module _ (k : Rights) (s o kind : ℕ) (list : List ℕ) where
   read-cases : (t f : ℕ) → afterGrant k s o kind list .read t f ≡ true → (k .read t f ≡ true) ⊎ Asked s o t f (reads kind)
@@ -116,9 +122,10 @@ module _ (k : Rights) (s o kind : ℕ) (list : List ℕ) where
 
 pub grant-clean : (w : Wall) (k : Rights) (s o kind : ℕ) (list : List ℕ) → Lawful w → Clean w k → Grantable w k s o kind list → Clean w (afterGrant k s o kind list)
 grant-clean w k s o kind list lawful clean may =
-    record
-      { apart = λ t f g p q. apart t f g (read-cases k s o kind list t f p) (read-cases k s o kind list t g q)
-      ; confined = λ t f g p q. confined t f g (write-cases k s o kind list t f p) (read-cases k s o kind list t g q) }
+    record {
+      apart = λ t f g p q. apart t f g (read-cases k s o kind list t f p) (read-cases k s o kind list t g q);
+      confined = λ t f g p q. confined t f g (write-cases k s o kind list t f p) (read-cases k s o kind list t g q);
+    }
   where
     apart : (t f g : ℕ) → (k .read t f ≡ true) ⊎ Asked s o t f (reads kind) → (k .read t g ≡ true) ⊎ Asked s o t g (reads kind) →
         w .conflict (w .own f) (w .own g) → ⊥
@@ -127,6 +134,7 @@ grant-clean w k s o kind list lawful clean may =
     apart t f g (inr a) (inl b) c =
         may .no-rival (a .given) g (rw (a .login) at b) (rw (a .folder) at (lawful .symmetric (w .own f) (w .own g) c))
     apart t f g (inr a) (inr b) c = lawful .irreflexive (w .own o) (rw (a .folder, b .folder) at c)
+
     confined : (t f g : ℕ) → Left k s t f list ⊎ Asked s o t f (writes kind) → (k .read t g ≡ true) ⊎ Asked s o t g (reads kind) →
         (w .own g ≡ 0 → ⊥) → w .own g ≡ w .own f
     confined t f g (inl a) (inl b) z = clean .confined t f g (a .stood) b z
@@ -156,32 +164,36 @@ module _ (w : Wall) (k : Rights) (h : Held) (s : ℕ) (own-held : (f c : ℕ) �
       w .conflict (w .own f) (w .own g) → Breaks w k h s
   unfolding used
   meets f g a b y z c =
-      record
-        { first = f
-        ; second = g
-        ; breaks =
-          inl
-          (inl
-          (record
-            { login = s
-            ; one = w .own f
-            ; other = w .own g
-            ; holds-one = inl (inr (refl, a, own-held f (w .own f) (refl, y)))
-            ; holds-other = inr (refl, b, own-held g (w .own g) (refl, z))
-            ; in-conflict = c })) }
+      record {
+        first = f;
+        second = g;
+        breaks =
+            inl
+            (inl
+            (record {
+              login = s;
+              one = w .own f;
+              other = w .own g;
+              holds-one = inl (inr (refl, a, own-held f (w .own f) (refl, y)));
+              holds-other = inr (refl, b, own-held g (w .own g) (refl, z));
+              in-conflict = c;
+            }));
+      }
 
   -- A login that may read a folder of one client and write a folder of another, or a sanitised one, can break the wall.
   pub strays : (f g : ℕ) → k .read s f ≡ true → k .write s g ≡ true → (w .own f ≡ 0 → ⊥) → (w .own f ≡ w .own g → ⊥) → Breaks w k h s
   unfolding used
   strays f g a b z d =
-      record
-        { first = f
-        ; second = g
-        ; breaks =
-          inr
-          (inr
-          (record
-            { folder = g
-            ; client = w .own f
-            ; holds = inr (refl, b, inr (refl, a, own-held f (w .own f) (refl, z)))
-            ; not-own = λ o. d (o .0) })) }
+      record {
+        first = f;
+        second = g;
+        breaks =
+            inr
+            (inr
+            (record {
+              folder = g;
+              client = w .own f;
+              holds = inr (refl, b, inr (refl, a, own-held f (w .own f) (refl, z)));
+              not-own = λ o. d (o .0);
+            }));
+      }

@@ -1,14 +1,12 @@
 -- Demand 3: no sequence of requests and uses breaks the wall, and no 20, 21 or 22 is given needlessly.
 use Prim.Native.Nat.{ℕ, _*_}
 use mathlib.Core.Path.{_≡_}
-use mathlib.Core.Bool.{Bool, true, _||_}
+use mathlib.Core.Bool.{true}
 use mathlib.Core.List.{List, _∷_, _++_}
 use lib.ListN.{length}
-use lib.Dec.{eqb}
-use Rattle.vocabulary.specs.Answer.{Answer}
 use Rattle.register.specs.Register.{Register, Accepted, folders}
 use Rattle.monitor.specs.Rules.{rowOf, cell, cellFor}
-use Rattle.monitor.specs.Outcome.{Request, Log, outcome}
+use Rattle.monitor.specs.Outcome.{Request, Log, byWall, outcome}
 use Rattle.monitor.specs.Wall.{Rights, Broken, Needful, classWall}
 use Rattle.monitor.specs.History.{Step, ask, State, blank, run}
 
@@ -21,10 +19,6 @@ cellStanding k s f = cellFor (k .read s f) (k .write s f)
 pub record Shows (r : Register) (σ : State) : Type 0 where
   pub whole : length (σ .matrix) ≡ r .logins * folders r
   pub cells : (s f : ℕ) → cell (rowOf r (σ .matrix) s) f ≡ cellStanding (σ .rights) s f
-
--- 20, 21 or 22.
-abbrev pub byWall : Answer → Bool
-byWall a = eqb (a .number) 20 || eqb (a .number) 21 || eqb (a .number) 22
 
 -- Each 20, 21 or 22 in the list was needful, judged by the rights and holdings at that moment.
 abbrev pub NeedfulRefusals : Register → List Step → Type 0

@@ -64,9 +64,13 @@ decision r matrix q log =
 
 -- ---- what a decision leaves
 
+-- 20, 21 or 22.
+abbrev pub byWall : Answer → Bool
+byWall a = eqb (a .number) 20 || eqb (a .number) 21 || eqb (a .number) 22
+
 -- Grants, 20, 21 and 22 are logged.
 abbrev pub isLogged : Answer → Bool
-isLogged a = eqb (a .number) 0 || eqb (a .number) 20 || eqb (a .number) 21 || eqb (a .number) 22
+isLogged a = eqb (a .number) 0 || byWall a
 
 -- The record of a decision. 'After a refusal the count is 1 and the number is the folder carried.'
 abbrev pub recordOf : Request → ℕ → Answer → Record

@@ -42,8 +42,10 @@ judge-silent (c ∷ cs) x n s e = go (c .fails) refl (judge-silent cs x n (parts
   where
     parts : (not (eqb (c .refusal .number) n) ≡ true) × (noneSays n cs ≡ true)
     parts = both (not (eqb (c .refusal .number) n)) (noneSays n cs) s
+
     say : (b : Bool) → c .fails ≡ b → cond b (c .refusal) (judge cs x) .number ≡ n
     say b f = rw (← f) e
+
     go : (b : Bool) → c .fails ≡ b → (judge cs x .number ≡ n → Passed cs × (judge cs x ≡ x)) →
         ((c .fails ≡ false) × Passed cs) × (cond (c .fails) (c .refusal) (judge cs x) ≡ x)
     go true f more = not-both (parts .0) (rw (eq-eqb (c .refusal .number) n (say true f)))
