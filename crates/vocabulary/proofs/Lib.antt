@@ -2,3 +2,5 @@ pub mod Those
 pub mod Judge
 pub mod Bools
 pub mod Each
+pub mod Order
+pub mod Sets
