@@ -15,6 +15,14 @@ pub record Register : Type 0 where
   pub classes : List ℕ
   pub clients : List ℕ
 
+abbrev pub registerOf : ℕ → List ℕ → List ℕ → Register
+registerOf logins classes clients =
+    record {
+      logins = logins;
+      classes = classes;
+      clients = clients;
+    }
+
 -- F, the number of folders.
 abbrev pub folders : Register → ℕ
 folders r = length (r .classes)

@@ -110,3 +110,35 @@ pub those-never : (p : ℕ → Bool) (n : ℕ) → ((k : ℕ) → k < n → p k 
 unfolding those
 those-never p zero h = refl
 those-never p (suc n) h = rw (those-never p n (λ k j. h k (omega arith)), h n (omega arith))
+
+-- The first number of a search that has found nothing below i and finds i is i, whatever stands for 'none'.
+pub first-found : (p : ℕ → Bool) (i n d : ℕ) → those p i ≡ [] → p i ≡ true → i < n → getD (those p n) 0 d ≡ i
+first-found p i n d e f h = rw (those-found p i n e f h .1)
+
+-- A search that has come to its bound and has found nothing has the bound for its first number, where that stands for 'none'.
+pub first-end : (p : ℕ → Bool) (i n : ℕ) → those p i ≡ [] → i ≤ n → n ≤ i → getD (those p n) 0 n ≡ i
+first-end p i n e below above = let same : i ≡ n = omega arith in rw (← same, e)
+
+-- A search whose first number is below what stands for 'none' found it.
+pub first-some : (p : ℕ → Bool) (n d : ℕ) → getD (those p n) 0 d < d → (some (those p n) ≡ true) × (smallest (those p n) ≡ getD (those p n) 0 d)
+first-some p n d = at (those p n)
+  where
+    at : (l : List ℕ) → getD l 0 d < d → (some l ≡ true) × (smallest l ≡ getD l 0 d)
+    at [] h = absurd (omega arith)
+    at (x ∷ xs) h = (refl, refl)
+
+-- With the bound for 'none', a search whose first number is not below the bound found nothing.
+pub first-none : (p : ℕ → Bool) (n : ℕ) → n ≤ getD (those p n) 0 n → some (those p n) ≡ false
+first-none p n h = at (those p n) (smallest-holds p n) h
+  where
+    at : (l : List ℕ) → (some l ≡ true → (smallest l < n) × (p (smallest l) ≡ true)) → n ≤ getD l 0 n → some l ≡ false
+    at [] s h = refl
+    at (x ∷ xs) s h = absurd (omega (arith, s refl .0))
+
+-- Whatever stands for 'none', the first number of a search that found something is the smallest.
+pub first-smallest : (p : ℕ → Bool) (n d : ℕ) → some (those p n) ≡ true → getD (those p n) 0 d ≡ smallest (those p n)
+first-smallest p n d = at (those p n)
+  where
+    at : (l : List ℕ) → some l ≡ true → getD l 0 d ≡ smallest l
+    at [] e = absurd (false≢true e)
+    at (x ∷ xs) e = refl

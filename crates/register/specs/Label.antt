@@ -1,0 +1,10 @@
+-- A folder's label: its class and its client.
+use Prim.Native.Nat.{ℕ}
+use Rattle.register.specs.declared.Label.{Label}
+
+abbrev pub labelOf : ℕ → ℕ → Label
+labelOf class client =
+    record {
+      class = record { 0 = class };
+      client = record { 0 = client };
+    }
