@@ -109,15 +109,15 @@ matrixAfter r matrix q a =
     (withRow r matrix (q .login) (rowAfter r (rowOf r matrix (q .login)) (q .folder) (q .kind)))
     matrix
 
--- A decision that is to be logged: '30 speaks in place of a grant, 20, 21 or 22 whose record does not fit'.
-unfoldable pub logged : Register → List ℕ → Request → Log → Answer → Outcome
-logged r matrix q log a =
+-- A decision that is to be logged: '30 speaks in place of a grant, 20, 21 or 22 whose record does not fit; the decision is not told'.
+unfoldable pub logged : Request → Log → Answer → List ℕ → List ℕ → Outcome
+logged q log a before after =
     let new : List ℕ = recordBytes (recordOf q (log .serial) a) in
     cond (ltb (length (log .bytes) - log .end) (length new))
-    (unchanged (answer 30 []) matrix log)
+    (unchanged (answer 30 []) before log)
     (record {
       answer = a;
-      matrix = matrixAfter r matrix q a;
+      matrix = after;
       log = appended log new;
     })
 
@@ -125,7 +125,7 @@ logged r matrix q log a =
 unfoldable pub outcome : Register → List ℕ → Request → Log → Outcome
 outcome r matrix q log =
     let a : Answer = decision r matrix q log in
-    cond (isLogged a) (logged r matrix q log a) (unchanged a matrix log)
+    cond (isLogged a) (logged q log a matrix (matrixAfter r matrix q a)) (unchanged a matrix log)
 
 -- What the caller is told: of a grant, how many write rights were taken back.
 abbrev pub toldAnswer : Answer → Answer
