@@ -1,5 +1,6 @@
 pub mod Rules
 pub mod Outcome
+pub mod Stages
 pub mod Wall
 pub mod History
 pub mod Demand3

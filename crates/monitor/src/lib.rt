@@ -1,1 +1,45 @@
-// The reference monitor.
+// The reference monitor (document 01, 'The four kinds of request' and 'Where each refusal is checked').
+use ids::FolderNo;
+use ids::LoginNo;
+
+mod row; // the walks over a login's row
+mod rules; // the rules on one cell and two labels
+
+// What a request is answered.
+pub enum Answer {
+    // 0, with how many write rights were taken back
+    Granted(u16),
+    // 1: P or F beyond its range, or lists of unequal length
+    OutOfRange,
+    // 2: exactly one of class and client is 0
+    LoneZero(FolderNo),
+    // 3: a client has two classes
+    TwoClasses(FolderNo, FolderNo),
+    // 4: the matrix's length is not P times F
+    MatrixLength,
+    // 5: login is P or more
+    UnknownLogin,
+    // 6: folder is F or more
+    UnknownFolder,
+    // 7: kind is not 1 to 4
+    UnknownKind,
+    // 8: a cell of this login's row exceeds 3
+    BadCell(FolderNo),
+    // 9: the log's end lies past its buffer
+    BadEnd,
+    // 20: a rival exists
+    Rival(FolderNo),
+    // 21: a foreign folder exists
+    Foreign(FolderNo),
+    // 22: a folder is at stake
+    AtStake(FolderNo),
+    // 30: the record is longer than the room left
+    NoRoom,
+}
+
+// A request's answer, the log's new end and the next serial.
+pub struct Reply {
+    pub answer: Answer,
+    pub end: usize,
+    pub serial: u16,
+}

@@ -1,0 +1,86 @@
+use native.Mathlib.Omega.{arith}
+use borrow.Author.Needs.{needs}
+use Rattle.monitor.proofs.row.find.Statement.{statement}
+use Rattle.monitor.proofs.row.find.Tie as tie
+use Rattle.monitor.proofs.row.find.Reads as reads
+use Rattle.monitor.proofs.row.find.Lts as lts
+use Rattle.monitor.proofs.rules.fits.Reads as fits-reads
+use Rattle.register.proofs.labelled.Reads as labelled-reads
+
+abbrev Inv-loop : tie.InvT-loop
+Inv-loop sort row classes clients o f₀ f = ?
+
+abbrev μ-loop : tie.MeasureT-loop
+μ-loop sort row classes clients o f₀ f = ?
+
+-- src/row.rt:16:5
+loop-holds : tie.Need-loop-holds Inv-loop μ-loop
+loop-holds c = search needs
+
+-- src/row.rt:17:30
+shared-slice-read-fits : tie.Need-shared-slice-read-fits Inv-loop μ-loop
+shared-slice-read-fits c = search needs
+
+-- src/row.rt:17:57
+mul-labelled : tie.Need-mul-labelled Inv-loop μ-loop
+mul-labelled c = search needs
+
+-- src/row.rt:17:57
+shared-slice-read-labelled : tie.Need-shared-slice-read-labelled Inv-loop μ-loop
+shared-slice-read-labelled c = search needs
+
+-- src/row.rt:17:69
+mul-labelled-2 : tie.Need-mul-labelled-2 Inv-loop μ-loop
+mul-labelled-2 c = search needs
+
+-- src/row.rt:17:69
+shared-slice-read-labelled-2 : tie.Need-shared-slice-read-labelled-2 Inv-loop μ-loop
+shared-slice-read-labelled-2 c = search needs
+
+-- src/row.rt:17:38
+labelled-requires : tie.Need-labelled-requires Inv-loop μ-loop
+labelled-requires c κs = search needs
+
+-- src/row.rt:17:12
+fits-requires : tie.Need-fits-requires Inv-loop μ-loop
+fits-requires c κs = search needs
+
+-- src/row.rt:18:13
+returns : tie.Need-returns Inv-loop μ-loop
+returns c = search needs
+
+-- src/row.rt:20:9
+add-f : tie.Need-add-f Inv-loop μ-loop
+add-f c = search needs
+
+-- src/row.rt:16:5
+loop-less : tie.Need-loop-less Inv-loop μ-loop
+loop-less c = search needs
+
+-- src/row.rt:16:5
+loop-again : tie.Need-loop-again Inv-loop μ-loop
+loop-again c = search needs
+
+-- src/row.rt:11:1
+returns-2 : tie.Need-returns-2 Inv-loop μ-loop
+returns-2 c = search needs
+
+pub find-spec : {M : Type 1} → statement M
+find-spec =
+    tie.close
+    (tie.spec
+    Inv-loop
+    μ-loop
+    loop-holds
+    shared-slice-read-fits
+    mul-labelled
+    shared-slice-read-labelled
+    mul-labelled-2
+    shared-slice-read-labelled-2
+    labelled-requires
+    fits-requires
+    returns
+    add-f
+    loop-less
+    loop-again
+    returns-2)

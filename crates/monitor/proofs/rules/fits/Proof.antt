@@ -1,0 +1,69 @@
+use native.Mathlib.Omega.{arith}
+use borrow.Author.Needs.{needs}
+use Rattle.monitor.proofs.rules.fits.Statement.{statement}
+use Rattle.monitor.proofs.rules.fits.Tie as tie
+use Rattle.monitor.proofs.rules.fits.Reads as reads
+use Rattle.monitor.proofs.rules.fits.Lts as lts
+use Rattle.monitor.proofs.rules.at_stake.Reads as at-stake-reads
+use Rattle.monitor.proofs.rules.is_foreign.Reads as is-foreign-reads
+use Rattle.monitor.proofs.rules.is_rival.Reads as is-rival-reads
+
+-- src/rules.rt:75:27
+enum-told : tie.Need-enum-told
+enum-told c = search needs
+
+-- src/rules.rt:76:24
+enum-told-2 : tie.Need-enum-told-2
+enum-told-2 c = search needs
+
+-- src/rules.rt:76:24
+is-rival-requires : tie.Need-is-rival-requires
+is-rival-requires c κs = search needs
+
+-- src/rules.rt:77:26
+enum-told-3 : tie.Need-enum-told-3
+enum-told-3 c = search needs
+
+-- src/rules.rt:77:26
+is-foreign-requires : tie.Need-is-foreign-requires
+is-foreign-requires c κs = search needs
+
+-- src/rules.rt:78:26
+enum-told-4 : tie.Need-enum-told-4
+enum-told-4 c = search needs
+
+-- src/rules.rt:78:26
+at-stake-requires : tie.Need-at-stake-requires
+at-stake-requires c κs = search needs
+
+-- src/rules.rt:71:1
+returns : tie.Need-returns
+returns c = search needs
+
+-- src/rules.rt:71:1
+returns-2 : tie.Need-returns-2
+returns-2 c = search needs
+
+-- src/rules.rt:71:1
+returns-3 : tie.Need-returns-3
+returns-3 c = search needs
+
+-- src/rules.rt:71:1
+returns-4 : tie.Need-returns-4
+returns-4 c = search needs
+
+pub fits-spec : {M : Type 1} → statement M
+fits-spec =
+    tie.close
+    (tie.spec
+    enum-told
+    enum-told-2
+    is-rival-requires
+    enum-told-3
+    is-foreign-requires
+    enum-told-4
+    at-stake-requires
+    returns
+    returns-2
+    returns-3
+    returns-4)

@@ -1,0 +1,98 @@
+// The rules on one cell of a row and two labels: the folder's and that of the folder asked for.
+use register::Label;
+ghost use Prim.Native.Nat.{_≤_};
+ghost use mathlib.Core.Path.{_≡_};
+ghost use mathlib.Core.Bool.{not, _&&_, _||_};
+ghost use lib.Dec.{eqb, leb};
+ghost use Rattle.monitor.specs.Rules.{canRead, canWrite, reads, writes, revokes, cellFor};
+ghost use Rattle.monitor.specs.Stages.{fits, cellLeft};
+
+// What a walk over a row looks for.
+pub(crate) enum Sort {
+    // a cell above 3
+    TooLarge,
+    Rival,
+    Foreign,
+    AtStake,
+}
+
+pub(crate) fn can_read(cell: u8) -> bool
+    ensures { λ r. ⌜ r ≡ canRead cell ⌝ }
+{
+    cell % 2 == 1
+}
+
+pub(crate) fn can_write(cell: u8) -> bool
+    ensures { λ r. ⌜ r ≡ canWrite cell ⌝ }
+{
+    2 <= cell
+}
+
+pub(crate) fn reads(kind: u16) -> bool
+    ensures { λ r. ⌜ r ≡ reads kind ⌝ }
+{
+    (kind == 1) | (kind == 2) | (kind == 4)
+}
+
+pub(crate) fn writes(kind: u16) -> bool
+    ensures { λ r. ⌜ r ≡ writes kind ⌝ }
+{
+    (kind == 3) | (kind == 4)
+}
+
+pub(crate) fn revokes(kind: u16) -> bool
+    ensures { λ r. ⌜ r ≡ revokes kind ⌝ }
+{
+    (kind == 1) | (kind == 4)
+}
+
+// Rival: readable, of o's class and of another client.
+fn is_rival(cell: u8, f: Label, o: Label) -> bool
+    ensures { λ r. ⌜ r ≡ fits Sort.Rival cell f o ⌝ }
+{
+    can_read(cell) & (f.class.0 == o.class.0) & (f.client.0 != o.client.0)
+}
+
+// Foreign: readable, not sanitised, of another client.
+fn is_foreign(cell: u8, f: Label, o: Label) -> bool
+    ensures { λ r. ⌜ r ≡ fits Sort.Foreign cell f o ⌝ }
+{
+    can_read(cell) & (f.client.0 != 0) & (f.client.0 != o.client.0)
+}
+
+// At stake: writable, of another client; none if o is sanitised.
+pub(crate) fn at_stake(cell: u8, f: Label, o: Label) -> bool
+    ensures { λ r. ⌜ r ≡ fits Sort.AtStake cell f o ⌝ }
+{
+    can_write(cell) & (f.client.0 != o.client.0) & (o.client.0 != 0)
+}
+
+// Whether a folder with this cell and label is of the sort looked for, where the folder asked for has the label o.
+pub(crate) fn fits(sort: Sort, cell: u8, f: Label, o: Label) -> bool
+    ensures { λ r. ⌜ r ≡ fits sort cell f o ⌝ }
+{
+    match sort {
+        Sort::TooLarge => 3 < cell,
+        Sort::Rival => is_rival(cell, f, o),
+        Sort::Foreign => is_foreign(cell, f, o),
+        Sort::AtStake => at_stake(cell, f, o),
+    }
+}
+
+// The cell that shows these rights.
+fn cell_for(read: bool, write: bool) -> u8
+    ensures { λ r. ⌜ r ≡ cellFor read write ⌝ }
+{
+    if read {
+        return if write { 3 } else { 1 };
+    }
+    if write { 2 } else { 0 }
+}
+
+// The cell of a folder after a grant; `asked` says whether it is the folder asked for.
+pub(crate) fn cell_left(cell: u8, f: Label, o: Label, asked: bool, kind: u16) -> u8
+    ensures { λ r. ⌜ r ≡ cellLeft cell f o asked kind ⌝ }
+{
+    let kept = can_write(cell) & !(revokes(kind) & at_stake(cell, f, o));
+    cell_for(can_read(cell) | (asked & reads(kind)), kept | (asked & writes(kind)))
+}
