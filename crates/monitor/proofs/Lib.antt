@@ -4,4 +4,5 @@ pub mod Rows
 pub mod Outcome
 pub mod Shown
 pub mod Demand3
+pub mod Ruled
 pub mod Session

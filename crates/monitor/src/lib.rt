@@ -2,6 +2,7 @@
 use ids::FolderNo;
 use ids::LoginNo;
 
+mod decide; // the wall's answer on a row
 mod row; // the walks over a login's row
 mod rules; // the rules on one cell and two labels
 
