@@ -5,4 +5,6 @@ pub mod Outcome
 pub mod Shown
 pub mod Demand3
 pub mod Ruled
+pub mod Logged
+pub mod Lost
 pub mod Session

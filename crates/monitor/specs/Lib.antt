@@ -1,5 +1,6 @@
 pub mod Rules
 pub mod Outcome
+pub mod Reply
 pub mod Stages
 pub mod Wall
 pub mod History

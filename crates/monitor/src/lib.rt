@@ -3,6 +3,7 @@ use ids::FolderNo;
 use ids::LoginNo;
 
 mod decide; // the wall's answer on a row
+mod record; // a decision carried out: the record, then the row
 mod row; // the walks over a login's row
 mod rules; // the rules on one cell and two labels
 

@@ -8,7 +8,7 @@ ghost use mathlib.Core.Bool.{cond};
 ghost use lib.ListN.{length, getD, take};
 ghost use Rattle.vocabulary.specs.Those.{those};
 ghost use Rattle.vocabulary.specs.Each.{each};
-ghost use Rattle.monitor.specs.Stages.{fitsAt, leftAt};
+ghost use Rattle.monitor.specs.Stages.{fitsAt, leftAt, lostAt};
 
 // The first folder of the sort looked for, or the row's length. What the walk has passed has none.
 pub(crate) fn find(sort: Sort, row: &[u8], classes: &[u16], clients: &[u16], o: Label) -> usize
@@ -77,4 +77,22 @@ pub(crate) fn grant(
         );
         f += 1;
     }
+}
+
+// Lists the folders that lose their write right on a grant, rising, and says how many.
+pub(crate) fn list_lost(
+    row: &[u8],
+    classes: &[u16],
+    clients: &[u16],
+    o: Label,
+    kind: u16,
+    list: &mut [u16],
+) -> usize
+    requires { ⌜ (length (now classes) ≡ length (now row)) × (length (now clients) ≡ length (now row)) × (length (now row) ≤ length (now list)) × (length (now row) ≤ 512) ⌝ }
+    ensures { λ r. ⌜ (take r (now (list .exit)) ≡ lostAt (now (row .entry)) (now (classes .entry)) (now (clients .entry)) o kind) × (r ≤ length (now (row .entry))) ⌝ }
+{
+    if rules::revokes(kind) {
+        return list_stakes(row, classes, clients, o, list);
+    }
+    0
 }
