@@ -7,4 +7,5 @@ pub mod Demand3
 pub mod Ruled
 pub mod Logged
 pub mod Lost
+pub mod Stages
 pub mod Session

@@ -28,12 +28,12 @@ module _ (classes clients row : List ℕ) (same : length classes ≡ length row)
   abbrev pub first : Sort → ℕ
   first sort = getD (those (fitsAt sort row classes clients (labelOf (getD classes o 0) (getD clients o 0))) (length row)) 0 (length row)
 
-  found : (sort : Sort) → first sort < length row →
+  pub found : (sort : Sort) → first sort < length row →
       (some (those (fitsAt sort row classes clients (labelOf (getD classes o 0) (getD clients o 0))) (length row)) ≡ true)
       × (smallest (those (fitsAt sort row classes clients (labelOf (getD classes o 0) (getD clients o 0))) (length row)) ≡ first sort)
   found sort h = first-some _ _ _ h
 
-  none : (sort : Sort) → length row ≤ first sort →
+  pub none : (sort : Sort) → length row ≤ first sort →
       some (those (fitsAt sort row classes clients (labelOf (getD classes o 0) (getD clients o 0))) (length row)) ≡ false
   none sort h = first-none _ _ h
 

@@ -6,6 +6,7 @@ mod decide; // the wall's answer on a row
 mod record; // a decision carried out: the record, then the row
 mod row; // the walks over a login's row
 mod rules; // the rules on one cell and two labels
+mod serve; // a request on the row of the login that asks
 
 // What a request is answered.
 pub enum Answer {
