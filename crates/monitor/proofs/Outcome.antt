@@ -15,24 +15,20 @@ use Rattle.register.specs.Register.{Register, registerChecks}
 use Rattle.monitor.specs.Rules.{rowOf}
 use Rattle.monitor.specs.Outcome.{Request, Log, Outcome, requestChecks, wallAnswer, decision, isLogged, recordOf, unchanged, matrixAfter, logged, outcome}
 
--- A check that is to be logged is none of the early ones.
-early-silent : (r : Register) (m : List ℕ) (q : Request) (log : Log) (x : Answer) →
-    isLogged (judge (registerChecks r ++ requestChecks r m q log) x) ≡ true →
-    Passed (registerChecks r ++ requestChecks r m q log) × (judge (registerChecks r ++ requestChecks r m q log) x ≡ x)
-unfolding registerChecks requestChecks
-early-silent r m q log x e =
+-- An answer that is to be logged is none of a table's whose checks have other numbers.
+pub logged-silent : (table : List Check) (x : Answer) →
+    noneSays 0 table ≡ true → noneSays 20 table ≡ true → noneSays 21 table ≡ true → noneSays 22 table ≡ true →
+    isLogged (judge table x) ≡ true → Passed table × (judge table x ≡ x)
+logged-silent table x a b c d e =
     ⊎-elim
-    (silent 0 refl)
-    (λ a.
+    (silent 0 a)
+    (λ f.
     ⊎-elim
-    (λ b. ⊎-elim (silent 20 refl) (silent 21 refl) (either (eqb n 20) (eqb n 21) b))
-    (silent 22 refl)
-    (either (eqb n 20 || eqb n 21) (eqb n 22) a))
+    (λ g. ⊎-elim (silent 20 b) (silent 21 c) (either (eqb n 20) (eqb n 21) g))
+    (silent 22 d)
+    (either (eqb n 20 || eqb n 21) (eqb n 22) f))
     (either (eqb n 0) (eqb n 20 || eqb n 21 || eqb n 22) e)
   where
-    table : List Check
-    table = registerChecks r ++ requestChecks r m q log
-
     n : ℕ
     n = judge table x .number
 
@@ -51,8 +47,8 @@ module _ (r : Register) (m : List ℕ) (q : Request) (log : Log) where
     pub left : outcome r m q log .matrix ≡ matrixAfter r m q met
 
   decision-logged : isLogged (decision r m q log) ≡ true → Passed (registerChecks r ++ requestChecks r m q log) × (decision r m q log ≡ met)
-  unfolding decision
-  decision-logged e = early-silent r m q log met e
+  unfolding decision registerChecks requestChecks
+  decision-logged e = logged-silent (registerChecks r ++ requestChecks r m q log) met refl refl refl refl e
 
   -- Whether the record lacks room.
   unfoldable pub tooLong : Bool

@@ -69,3 +69,7 @@ module _ (r : Register) (m : List ℕ) (whole : length m ≡ r .logins * folders
       where
         row-fits' : (t < s → ⊥) → s * folders r + folders r ≤ t * folders r
         row-fits' h = row-fits s t (folders r) (omega arith)
+
+-- A row put back is the matrix as it was.
+pub withRow-rowOf : (r : Register) (m : List ℕ) (s : ℕ) → withRow r m s (rowOf r m s) ≡ m
+withRow-rowOf r m s = rw (take-append-drop (folders r) (drop (s * folders r) m)) (take-append-drop (s * folders r) m)
