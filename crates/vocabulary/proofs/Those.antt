@@ -142,3 +142,12 @@ first-smallest p n d = at (those p n)
     at : (l : List ℕ) → some l ≡ true → getD l 0 d ≡ smallest l
     at [] e = absurd (false≢true e)
     at (x ∷ xs) e = refl
+
+-- Whether a search has found something, one number further.
+pub some-those-suc : (p : ℕ → Bool) (i : ℕ) → some (those p (i + 1)) ≡ (some (those p i) || p i)
+some-those-suc p i = rw those-suc (at (those p i) (p i))
+  where
+    at : (l : List ℕ) (b : Bool) → some (l ++ cond b (i ∷ []) []) ≡ (some l || b)
+    at [] true = refl
+    at [] false = refl
+    at (x ∷ xs) b = refl
