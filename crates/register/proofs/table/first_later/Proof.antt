@@ -11,8 +11,8 @@ use Rattle.register.specs.Chains.{Chained}
 use Rattle.register.specs.Register.{registerOf, earlier, later}
 use Rattle.register.proofs.Later.{later-step}
 use Rattle.register.proofs.Chains.{chained-none, pastLast-le}
-use Rattle.register.proofs.first_later.Statement.{statement}
-use Rattle.register.proofs.first_later.Tie as tie
+use Rattle.register.proofs.table.first_later.Statement.{statement}
+use Rattle.register.proofs.table.first_later.Tie as tie
 
 abbrev Inv-loop : tie.InvT-loop
 Inv-loop classes clients heads₀ nexts₀ f₀ heads nexts f = (f ≤ length classes) × ((those (λ g. some (earlier (registerOf 0 classes clients) g)) f ≡ []) × Chained clients heads nexts f)

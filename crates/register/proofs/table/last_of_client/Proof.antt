@@ -2,8 +2,8 @@
 use mathlib.Core.Path.{sym, _∙_}
 use borrow.Author.Needs.{needs}
 use Rattle.register.proofs.Chains.{Walking, walk-start, walk-next, walk-found, walk-end, walk-falls}
-use Rattle.register.proofs.last_of_client.Statement.{statement}
-use Rattle.register.proofs.last_of_client.Tie as tie
+use Rattle.register.proofs.table.last_of_client.Statement.{statement}
+use Rattle.register.proofs.table.last_of_client.Tie as tie
 
 abbrev Inv-loop : tie.InvT-loop
 Inv-loop clients heads nexts f client s past₀ past = Walking clients (client .0) f past

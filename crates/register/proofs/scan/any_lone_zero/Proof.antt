@@ -8,8 +8,8 @@ use borrow.Author.Needs.{needs}
 use Rattle.vocabulary.proofs.Those.{some-those-suc}
 use Rattle.vocabulary.specs.Those.{those, some}
 use Rattle.register.specs.Register.{registerOf, loneZero}
-use Rattle.register.proofs.any_lone_zero.Statement.{statement}
-use Rattle.register.proofs.any_lone_zero.Tie as tie
+use Rattle.register.proofs.scan.any_lone_zero.Statement.{statement}
+use Rattle.register.proofs.scan.any_lone_zero.Tie as tie
 
 abbrev Inv-loop : tie.InvT-loop
 Inv-loop classes clients any₀ f₀ any f = (f ≤ length classes) × (any ≡ some (those (loneZero (registerOf 0 classes clients)) f))

@@ -2,8 +2,8 @@
 use native.Mathlib.Omega.{arith}
 use borrow.Author.Needs.{needs}
 use Rattle.register.proofs.Chains.{chained-more}
-use Rattle.register.proofs.enter.Statement.{statement}
-use Rattle.register.proofs.enter.Tie as tie
+use Rattle.register.proofs.table.enter.Statement.{statement}
+use Rattle.register.proofs.table.enter.Tie as tie
 
 mul-nexts : tie.Need-mul-nexts
 mul-nexts c = search needs

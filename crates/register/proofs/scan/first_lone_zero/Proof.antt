@@ -8,8 +8,8 @@ use borrow.Author.Needs.{needs}
 use Rattle.vocabulary.proofs.Those.{first-end, those-none, first-found}
 use Rattle.vocabulary.specs.Those.{those}
 use Rattle.register.specs.Register.{registerOf, loneZero}
-use Rattle.register.proofs.first_lone_zero.Statement.{statement}
-use Rattle.register.proofs.first_lone_zero.Tie as tie
+use Rattle.register.proofs.scan.first_lone_zero.Statement.{statement}
+use Rattle.register.proofs.scan.first_lone_zero.Tie as tie
 
 abbrev Inv-loop : tie.InvT-loop
 Inv-loop classes clients f₀ f = (f ≤ length classes) × (those (loneZero (registerOf 0 classes clients)) f ≡ [])
