@@ -152,3 +152,12 @@ those-list p list n i h e = at (p i) refl
     at : (b : Bool) → p i ≡ b → take (n + cond (p i) 1 0) (set list n i) ≡ those p (i + 1)
     at true f = rw (those-take p i f, f, add-one, take-suc-set list n i h, e)
     at false f = rw (those-skip p i f, f, add-zero, take-set-le n list n i (omega arith)) e
+
+-- Whether a search has found something, one number further.
+pub some-those-suc : (p : ℕ → Bool) (i : ℕ) → some (those p (i + 1)) ≡ (some (those p i) || p i)
+some-those-suc p i = rw those-suc (at (those p i) (p i))
+  where
+    at : (l : List ℕ) (b : Bool) → some (l ++ cond b (i ∷ []) []) ≡ (some l || b)
+    at [] true = refl
+    at [] false = refl
+    at (x ∷ xs) b = refl

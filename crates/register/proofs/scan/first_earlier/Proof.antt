@@ -7,8 +7,8 @@ use borrow.Author.Needs.{needs}
 use Rattle.vocabulary.proofs.Those.{first-end, those-none, first-found}
 use Rattle.vocabulary.specs.Those.{those}
 use Rattle.register.specs.Register.{registerOf, differs}
-use Rattle.register.proofs.first_earlier.Statement.{statement}
-use Rattle.register.proofs.first_earlier.Tie as tie
+use Rattle.register.proofs.scan.first_earlier.Statement.{statement}
+use Rattle.register.proofs.scan.first_earlier.Tie as tie
 
 abbrev Inv-loop : tie.InvT-loop
 Inv-loop classes clients f l g₀ g = (g ≤ f) × (those (differs (registerOf 0 classes clients) f) g ≡ [])

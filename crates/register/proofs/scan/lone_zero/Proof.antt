@@ -2,8 +2,8 @@
 use mathlib.Core.Path.{_≡_, refl}
 use mathlib.Core.Bool.{Bool, true, false, not, Bool·beq}
 use Rattle.register.specs.Register.{exactlyOne}
-use Rattle.register.proofs.lone_zero.Statement.{statement}
-use Rattle.register.proofs.lone_zero.Tie as tie
+use Rattle.register.proofs.scan.lone_zero.Statement.{statement}
+use Rattle.register.proofs.scan.lone_zero.Tie as tie
 
 not-beq : (a b : Bool) → not (Bool·beq a b) ≡ exactlyOne a b
 not-beq true true = refl

@@ -8,8 +8,8 @@ use borrow.Author.Needs.{needs}
 use Rattle.vocabulary.proofs.Those.{first-end, those-none, first-found}
 use Rattle.vocabulary.specs.Those.{those}
 use Rattle.register.specs.Register.{registerOf, loneZero}
-use Rattle.register.proofs.first_lone_zero.Statement.{statement}
-use Rattle.register.proofs.first_lone_zero.Tie as tie
+use Rattle.register.proofs.scan.first_lone_zero.Statement.{statement}
+use Rattle.register.proofs.scan.first_lone_zero.Tie as tie
 
 abbrev Inv-loop : tie.InvT-loop
 Inv-loop classes clients f₀ f = (f ≤ length classes) × (those (loneZero (registerOf 0 classes clients)) f ≡ [])
@@ -30,7 +30,7 @@ lone-zero-requires c κs = search needs
 
 returns : tie.Need-returns Inv-loop μ-loop
 returns c =
-    sym (first-found _ _ _ _ (c .before .before .before .before .loop .inv .1) (rw (c .before .before .label-at .ensures) at (sym (c .before .lone-zero .ensures) ∙ c .if1 .taken)) (c .before .before .before .loop-test .taken))
+    (sym (first-found _ _ _ _ (c .before .before .before .before .loop .inv .1) (rw (c .before .before .label-at .ensures) at (sym (c .before .lone-zero .ensures) ∙ c .if1 .taken)) (c .before .before .before .loop-test .taken)), omega arith)
 
 add-f : tie.Need-add-f Inv-loop μ-loop
 add-f c = search needs
@@ -44,7 +44,7 @@ loop-again c =
 
 returns-2 : tie.Need-returns-2 Inv-loop μ-loop
 returns-2 c =
-    sym (first-end _ _ _ (c .before .loop .inv .1) (c .before .loop .inv .0) (c .loop-test .left))
+    (sym (first-end _ _ _ (c .before .loop .inv .1) (c .before .loop .inv .0) (c .loop-test .left)), omega arith)
 
 pub first-lone-zero-spec : {M : Type 1} → statement M
 first-lone-zero-spec =
