@@ -1,0 +1,38 @@
+-- Laws of the outcomes: what each way through packing and unpacking answers and leaves.
+use Prim.Native.Nat.{ℕ, _≤_, _<_}
+use mathlib.Core.Bool.{true, false}
+use mathlib.Core.List.{List, [], _∷_}
+use mathlib.Core.Path.{_≡_, refl}
+use lib.ListN.{length, getD, List·getD-eq-default}
+use native.Mathlib.Decide.{decLt}
+use native.Mathlib.Omega.{arith}
+use borrow.Author.Tests.{eq-eqb, ne-eqb, ltb-false}
+use Rattle.vocabulary.specs.Answer.{Answer, answer, judge}
+use Rattle.packing.specs.declared.Found.the-variants.{At, Nothing}
+use Rattle.packing.specs.Packed.{AllCells, quarter, packed}
+use Rattle.packing.specs.Outcome.{outcome, above, aboves, packs}
+use Rattle.packing.specs.Found.{found}
+use Rattle.packing.proofs.Searches.{some-found, none-found, those-none}
+
+-- where no cell above 3 is found, all are cells
+pub all-cells : (cells : List ℕ) → aboves cells ≡ [] → AllCells cells
+unfolding aboves
+all-cells cells none i = go (decLt i (length cells))
+  where
+    go : Dec (i < length cells) → getD cells i 0 ≤ 3
+    go (yes h) = ltb-false 3 _ (those-none (above cells) (length cells) none i h)
+    go (no g) = rw (List·getD-eq-default cells 0 {n = i} (omega arith)) (omega arith)
+
+module _ (cells buffer : List ℕ) where
+  pub pack-unequal : (length buffer ≡ quarter (length cells) → ⊥) → outcome (answer 61 []) buffer ≡ packs cells buffer
+  unfolding judge packs
+  pack-unequal g = simp (ne-eqb _ _ g)
+
+  module _ (fits : length buffer ≡ quarter (length cells)) where
+    pub pack-above : (i : ℕ) → At i ≡ found (aboves cells) → outcome (answer 60 (i ∷ [])) buffer ≡ packs cells buffer
+    unfolding judge packs
+    pack-above i at = let f = some-found (aboves cells) i at in simp (eq-eqb _ _ fits, f .0, f .1)
+
+    pub pack-packed : (now : List ℕ) → Nothing ≡ found (aboves cells) → now ≡ packed cells → outcome (answer 0 []) now ≡ packs cells buffer
+    unfolding judge packs
+    pack-packed now none is = simp (eq-eqb _ _ fits, none-found (aboves cells) none, is)

@@ -1,0 +1,118 @@
+// Cells packed four to a byte, and back (document 01, 'The matrix').
+ghost use mathlib.Core.Path.{_≡_};
+ghost use mathlib.Core.List.{[]};
+ghost use Prim.Native.Nat.{_+_, _*_, _≤_, _<_};
+ghost use lib.ListN.{length, getD};
+ghost use Rattle.packing.specs.Packed.{AllCells, quarter, byteOf, byteAt, packed};
+ghost use Rattle.packing.specs.Outcome.{outcome, aboves, packs};
+ghost use Rattle.packing.specs.Answers.{packing};
+ghost use Rattle.packing.specs.Found.{found};
+
+// The answers of packing.
+pub enum Packing {
+    Packed,
+    CellAbove(usize),
+    Unequal,
+}
+
+// A place, if there is one.
+enum Found {
+    At(usize),
+    Nothing,
+}
+
+// The bytes that a number of cells takes: a quarter of it, rounded up.
+fn bytes_for(cells: usize) -> usize
+    ensures { λ r. ⌜ r ≡ quarter cells ⌝ }
+{
+    cells / 4 + (cells % 4 + 3) / 4
+}
+
+// The first cell above 3.
+// Invariant: no cell before i is above 3.
+fn first_above(cells: &[u8]) -> Found
+    ensures { λ r. ⌜ r ≡ found (aboves (now (cells .entry))) ⌝ }
+{
+    let mut i = 0;
+    while i < cells.len() {
+        if cells[i] > 3 {
+            return Found::At(i);
+        }
+        i += 1;
+    }
+    Found::Nothing
+}
+
+// Four cells in a byte, the first in the lowest two bits.
+fn byte_of(a: u8, b: u8, c: u8, d: u8) -> u8
+    requires { ⌜ (a ≤ 3) × (b ≤ 3) × (c ≤ 3) × (d ≤ 3) ⌝ }
+    ensures { λ r. ⌜ r ≡ byteOf a b c d ⌝ }
+{
+    a + 4 * b + 16 * c + 64 * d
+}
+
+// The cell at a place; 0 past the last cell.
+fn cell_or_0(cells: &[u8], i: usize) -> u8
+    ensures { λ r. ⌜ r ≡ getD (now (cells .entry)) i 0 ⌝ }
+{
+    if i < cells.len() {
+        return cells[i];
+    }
+    0
+}
+
+// Byte k of the packed form, of four cells that are there.
+fn whole_byte(cells: &[u8], k: usize) -> u8
+    requires { ⌜ (4 * k + 3 < length (now cells)) × AllCells (now cells) ⌝ }
+    ensures { λ r. ⌜ r ≡ byteAt (now (cells .entry)) k ⌝ }
+{
+    let i = 4 * k;
+    byte_of(cells[i], cells[i + 1], cells[i + 2], cells[i + 3])
+}
+
+// Byte k of the packed form, where cells may be lacking.
+fn last_byte(cells: &[u8], k: usize) -> u8
+    requires { ⌜ (4 * k < length (now cells)) × AllCells (now cells) ⌝ }
+    ensures { λ r. ⌜ r ≡ byteAt (now (cells .entry)) k ⌝ }
+{
+    let i = 4 * k;
+    byte_of(
+        cells[i],
+        cell_or_0(cells, i + 1),
+        cell_or_0(cells, i + 2),
+        cell_or_0(cells, i + 3),
+    )
+}
+
+// Writes the packed form: the bytes of four cells each, then a last one if cells are left.
+// Invariant: the first k bytes are written.
+fn write_bytes(cells: &[u8], bytes: &mut [u8])
+    requires { ⌜ (length (now bytes) ≡ quarter (length (now cells))) × AllCells (now cells) ⌝ }
+    ensures { λ r. ⌜ now (bytes .exit) ≡ packed (now (cells .entry)) ⌝ }
+{
+    let whole = cells.len() / 4;
+    let mut k = 0;
+    while k < whole {
+        bytes[k] = whole_byte(cells, k);
+        k += 1;
+    }
+    if whole == bytes.len() {
+        return;
+    }
+    bytes[whole] = last_byte(cells, whole);
+}
+
+// Packs `cells` into `packed`.
+pub fn pack(cells: &[u8], packed: &mut [u8]) -> Packing
+    ensures { λ r. ⌜ outcome (packing r) (now (packed .exit)) ≡ packs (now (cells .entry)) (now (packed .entry)) ⌝ }
+{
+    if packed.len() != bytes_for(cells.len()) {
+        return Packing::Unequal;
+    }
+    let above = first_above(cells);
+    if let Found::At(place) = above {
+        return Packing::CellAbove(place);
+    }
+    write_bytes(cells, packed);
+    Packing::Packed
+}
