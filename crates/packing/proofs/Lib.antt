@@ -1,3 +1,4 @@
 pub mod Searches
 pub mod Tabulates
 pub mod Outcomes
+pub mod Cells

@@ -9,8 +9,8 @@ use native.Mathlib.Omega.{arith}
 use borrow.Author.Tests.{eq-eqb, ne-eqb, ltb-false}
 use Rattle.vocabulary.specs.Answer.{Answer, answer, judge}
 use Rattle.packing.specs.declared.Found.the-variants.{At, Nothing}
-use Rattle.packing.specs.Packed.{AllCells, quarter, packed}
-use Rattle.packing.specs.Outcome.{outcome, above, aboves, packs}
+use Rattle.packing.specs.Packed.{AllCells, quarter, packed, unpacked, unused}
+use Rattle.packing.specs.Outcome.{outcome, above, aboves, packs, unpacks}
 use Rattle.packing.specs.Found.{found}
 use Rattle.packing.proofs.Searches.{some-found, none-found, those-none}
 
@@ -36,3 +36,17 @@ module _ (cells buffer : List ℕ) where
     pub pack-packed : (now : List ℕ) → Nothing ≡ found (aboves cells) → now ≡ packed cells → outcome (answer 0 []) now ≡ packs cells buffer
     unfolding judge packs
     pack-packed now none is = simp (eq-eqb _ _ fits, none-found (aboves cells) none, is)
+
+module _ (bytes buffer : List ℕ) where
+  pub unpack-unequal : (length bytes ≡ quarter (length buffer) → ⊥) → outcome (answer 61 []) buffer ≡ unpacks bytes buffer
+  unfolding judge unpacks
+  unpack-unequal g = simp (ne-eqb _ _ g)
+
+  module _ (fits : length bytes ≡ quarter (length buffer)) where
+    pub unpack-unused : (unused (length buffer) bytes ≡ 0 → ⊥) → outcome (answer 62 []) buffer ≡ unpacks bytes buffer
+    unfolding judge unpacks
+    unpack-unused g = simp (eq-eqb _ _ fits, ne-eqb _ _ g)
+
+    pub unpack-unpacked : (now : List ℕ) → unused (length buffer) bytes ≡ 0 → now ≡ unpacked (length buffer) bytes → outcome (answer 0 []) now ≡ unpacks bytes buffer
+    unfolding judge unpacks
+    unpack-unpacked now none is = simp (eq-eqb _ _ fits, eq-eqb _ _ none, is)

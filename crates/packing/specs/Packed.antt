@@ -23,9 +23,9 @@ byteAt cells k = byteOf (getD cells (4 * k) 0) (getD cells (4 * k + 1) 0) (getD 
 unfoldable pub packed : List ℕ → List ℕ
 packed cells = tabulate (byteAt cells) (quarter (length cells))
 
--- What a byte has from its two bits of place j on, j from 0 to 4.
+-- What a byte has from its cell j on, two bits a cell.
 abbrev pub from : ℕ → ℕ → ℕ
-from b j = b / 4 ^ j
+from b j = b / 2 ^ (2 * j)
 
 -- The cell that a packed form has at place i.
 abbrev pub cellAt : List ℕ → ℕ → ℕ

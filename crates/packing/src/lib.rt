@@ -3,15 +3,23 @@ ghost use mathlib.Core.Path.{_≡_};
 ghost use mathlib.Core.List.{[]};
 ghost use Prim.Native.Nat.{_+_, _*_, _≤_, _<_};
 ghost use lib.ListN.{length, getD};
-ghost use Rattle.packing.specs.Packed.{AllCells, quarter, byteOf, byteAt, packed};
-ghost use Rattle.packing.specs.Outcome.{outcome, aboves, packs};
-ghost use Rattle.packing.specs.Answers.{packing};
+ghost use Rattle.packing.specs.Packed.{AllCells, quarter, byteOf, byteAt, packed, from, cellAt, unpacked, unused};
+ghost use Rattle.packing.specs.Tabulate.{filled};
+ghost use Rattle.packing.specs.Outcome.{outcome, aboves, packs, unpacks};
+ghost use Rattle.packing.specs.Answers.{packing, unpacking};
 ghost use Rattle.packing.specs.Found.{found};
 
 // The answers of packing.
 pub enum Packing {
     Packed,
     CellAbove(usize),
+    Unequal,
+}
+
+// The answers of unpacking.
+pub enum Unpacking {
+    Unpacked,
+    UnusedSet,
     Unequal,
 }
 
@@ -51,12 +59,12 @@ fn byte_of(a: u8, b: u8, c: u8, d: u8) -> u8
     a + 4 * b + 16 * c + 64 * d
 }
 
-// The cell at a place; 0 past the last cell.
-fn cell_or_0(cells: &[u8], i: usize) -> u8
-    ensures { λ r. ⌜ r ≡ getD (now (cells .entry)) i 0 ⌝ }
+// What stands at a place; 0 past the end.
+fn at_or_0(bytes: &[u8], i: usize) -> u8
+    ensures { λ r. ⌜ r ≡ getD (now (bytes .entry)) i 0 ⌝ }
 {
-    if i < cells.len() {
-        return cells[i];
+    if i < bytes.len() {
+        return bytes[i];
     }
     0
 }
@@ -78,9 +86,9 @@ fn last_byte(cells: &[u8], k: usize) -> u8
     let i = 4 * k;
     byte_of(
         cells[i],
-        cell_or_0(cells, i + 1),
-        cell_or_0(cells, i + 2),
-        cell_or_0(cells, i + 3),
+        at_or_0(cells, i + 1),
+        at_or_0(cells, i + 2),
+        at_or_0(cells, i + 3),
     )
 }
 
@@ -115,4 +123,66 @@ pub fn pack(cells: &[u8], packed: &mut [u8]) -> Packing
     }
     write_bytes(cells, packed);
     Packing::Packed
+}
+
+// What a byte has from its cell j on, j from 0 to 3.
+fn from_cell(byte: u8, j: usize) -> u8
+    requires { ⌜ j < 4 ⌝ }
+    ensures { λ r. ⌜ r ≡ from byte j ⌝ }
+{
+    byte >> (2 * j)
+}
+
+// The unused bits of the last byte of `count` cells; 0 where it has none.
+fn unused_bits(bytes: &[u8], count: usize) -> u8
+    ensures { λ r. ⌜ r ≡ unused count (now (bytes .entry)) ⌝ }
+{
+    from_cell(at_or_0(bytes, count / 4), count % 4)
+}
+
+// Writes the cells from place `start` on, one by one.
+// Invariant: the first i cells are written.
+fn write_rest(bytes: &[u8], cells: &mut [u8], start: usize)
+    requires { ⌜ (length (now bytes) ≡ quarter (length (now cells))) × (start ≤ length (now cells)) × (now cells ≡ filled (cellAt (now bytes)) start (now cells)) ⌝ }
+    ensures { λ r. ⌜ now (cells .exit) ≡ unpacked (length (now (cells .entry))) (now (bytes .entry)) ⌝ }
+{
+    let mut i = start;
+    while i < cells.len() {
+        cells[i] = from_cell(bytes[i / 4], i % 4) % 4;
+        i += 1;
+    }
+}
+
+// Writes the cells: four from each byte, then those of a byte that has fewer.
+// Invariant: the cells of the first k bytes are written.
+fn write_cells(bytes: &[u8], cells: &mut [u8])
+    requires { ⌜ length (now bytes) ≡ quarter (length (now cells)) ⌝ }
+    ensures { λ r. ⌜ now (cells .exit) ≡ unpacked (length (now (cells .entry))) (now (bytes .entry)) ⌝ }
+{
+    let whole = cells.len() / 4;
+    let mut k = 0;
+    while k < whole {
+        let byte = bytes[k];
+        let i = 4 * k;
+        cells[i] = byte % 4;
+        cells[i + 1] = byte / 4 % 4;
+        cells[i + 2] = byte / 16 % 4;
+        cells[i + 3] = byte / 64 % 4;
+        k += 1;
+    }
+    write_rest(bytes, cells, 4 * whole);
+}
+
+// Unpacks `packed` into `cells`.
+pub fn unpack(packed: &[u8], cells: &mut [u8]) -> Unpacking
+    ensures { λ r. ⌜ outcome (unpacking r) (now (cells .exit)) ≡ unpacks (now (packed .entry)) (now (cells .entry)) ⌝ }
+{
+    if bytes_for(cells.len()) != packed.len() {
+        return Unpacking::Unequal;
+    }
+    if unused_bits(packed, cells.len()) != 0 {
+        return Unpacking::UnusedSet;
+    }
+    write_cells(packed, cells);
+    Unpacking::Unpacked
 }

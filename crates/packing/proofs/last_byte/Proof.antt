@@ -11,23 +11,23 @@ mul-i c = search needs
 shared-slice-read-byte-of : tie.Need-shared-slice-read-byte-of
 shared-slice-read-byte-of c = search needs
 
-add-cell-or-0 : tie.Need-add-cell-or-0
-add-cell-or-0 c = search needs
+add-at-or-0 : tie.Need-add-at-or-0
+add-at-or-0 c = search needs
 
-cell-or-0-requires : tie.Need-cell-or-0-requires
-cell-or-0-requires c κs = search needs
+at-or-0-requires : tie.Need-at-or-0-requires
+at-or-0-requires c κs = search needs
 
-add-cell-or-0-2 : tie.Need-add-cell-or-0-2
-add-cell-or-0-2 c = search needs
+add-at-or-0-2 : tie.Need-add-at-or-0-2
+add-at-or-0-2 c = search needs
 
-cell-or-0-requires-2 : tie.Need-cell-or-0-requires-2
-cell-or-0-requires-2 c κs = search needs
+at-or-0-requires-2 : tie.Need-at-or-0-requires-2
+at-or-0-requires-2 c κs = search needs
 
-add-cell-or-0-3 : tie.Need-add-cell-or-0-3
-add-cell-or-0-3 c = search needs
+add-at-or-0-3 : tie.Need-add-at-or-0-3
+add-at-or-0-3 c = search needs
 
-cell-or-0-requires-3 : tie.Need-cell-or-0-requires-3
-cell-or-0-requires-3 c κs = search needs
+at-or-0-requires-3 : tie.Need-at-or-0-requires-3
+at-or-0-requires-3 c κs = search needs
 
 byte-of-requires : tie.Need-byte-of-requires
 byte-of-requires c κs =
@@ -42,11 +42,11 @@ last-byte-spec =
     (tie.spec
     mul-i
     shared-slice-read-byte-of
-    add-cell-or-0
-    cell-or-0-requires
-    add-cell-or-0-2
-    cell-or-0-requires-2
-    add-cell-or-0-3
-    cell-or-0-requires-3
+    add-at-or-0
+    at-or-0-requires
+    add-at-or-0-2
+    at-or-0-requires-2
+    add-at-or-0-3
+    at-or-0-requires-3
     byte-of-requires
     returns)
