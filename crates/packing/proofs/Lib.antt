@@ -2,3 +2,4 @@ pub mod Searches
 pub mod Tabulates
 pub mod Outcomes
 pub mod Cells
+pub mod RoundTrip

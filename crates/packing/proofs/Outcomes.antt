@@ -6,13 +6,13 @@ use mathlib.Core.Path.{_≡_, refl}
 use lib.ListN.{length, getD, List·getD-eq-default}
 use native.Mathlib.Decide.{decLt}
 use native.Mathlib.Omega.{arith}
-use borrow.Author.Tests.{eq-eqb, ne-eqb, ltb-false}
+use borrow.Author.Tests.{eq-eqb, ne-eqb, ltb-false, le-ltb}
 use Rattle.vocabulary.specs.Answer.{Answer, answer, judge}
-use Rattle.packing.specs.declared.Found.the-variants.{At, Nothing}
+use Rattle.packing.specs.declared.Found.the-variants.{At}
 use Rattle.packing.specs.Packed.{AllCells, quarter, packed, unpacked, unused}
 use Rattle.packing.specs.Outcome.{outcome, above, aboves, packs, unpacks}
 use Rattle.packing.specs.Found.{found}
-use Rattle.packing.proofs.Searches.{some-found, none-found, those-none}
+use Rattle.packing.proofs.Searches.{some-found, those-none, those-all}
 
 -- where no cell above 3 is found, all are cells
 pub all-cells : (cells : List ℕ) → aboves cells ≡ [] → AllCells cells
@@ -22,6 +22,11 @@ all-cells cells none i = go (decLt i (length cells))
     go : Dec (i < length cells) → getD cells i 0 ≤ 3
     go (yes h) = ltb-false 3 _ (those-none (above cells) (length cells) none i h)
     go (no g) = rw (List·getD-eq-default cells 0 {n = i} (omega arith)) (omega arith)
+
+-- where all are cells, none above 3 is found
+pub no-aboves : (cells : List ℕ) → AllCells cells → aboves cells ≡ []
+unfolding aboves
+no-aboves cells all = those-all (above cells) (length cells) (λ i. le-ltb 3 (getD cells i 0) (all i))
 
 module _ (cells buffer : List ℕ) where
   pub pack-unequal : (length buffer ≡ quarter (length cells) → ⊥) → outcome (answer 61 []) buffer ≡ packs cells buffer
@@ -33,9 +38,9 @@ module _ (cells buffer : List ℕ) where
     unfolding judge packs
     pack-above i at = let f = some-found (aboves cells) i at in simp (eq-eqb _ _ fits, f .0, f .1)
 
-    pub pack-packed : (now : List ℕ) → Nothing ≡ found (aboves cells) → now ≡ packed cells → outcome (answer 0 []) now ≡ packs cells buffer
+    pub pack-packed : (now : List ℕ) → aboves cells ≡ [] → now ≡ packed cells → outcome (answer 0 []) now ≡ packs cells buffer
     unfolding judge packs
-    pack-packed now none is = simp (eq-eqb _ _ fits, none-found (aboves cells) none, is)
+    pack-packed now none is = simp (eq-eqb _ _ fits, none, is)
 
 module _ (bytes buffer : List ℕ) where
   pub unpack-unequal : (length bytes ≡ quarter (length buffer) → ⊥) → outcome (answer 61 []) buffer ≡ unpacks bytes buffer

@@ -43,6 +43,12 @@ module _ (p : ℕ → Bool) where
   pub found-nothing : (i n : ℕ) → those p i ≡ [] → n ≤ i → i ≤ n → Nothing ≡ found (those p n)
   found-nothing i n none low high = rw (le-antisymm low high, none)
 
+  -- where no number passes, nothing is found
+  pub those-all : (n : ℕ) → ((i : ℕ) → p i ≡ false) → those p n ≡ []
+  unfolding those
+  those-all zero not = refl
+  those-all (suc n) not = rw (those-all n not, not n)
+
   -- where nothing is found, no number passes
   pub those-none : (n : ℕ) → those p n ≡ [] → (i : ℕ) → i < n → p i ≡ false
   unfolding those

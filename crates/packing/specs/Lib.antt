@@ -3,3 +3,4 @@ pub mod Packed
 pub mod Outcome
 pub mod Answers
 pub mod Found
+pub mod RoundTrip

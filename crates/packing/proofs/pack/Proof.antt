@@ -35,7 +35,7 @@ same-length c = search needs
 
 returns-3 : tie.Need-returns-3
 returns-3 c =
-    pack-packed _ _ (search needs) _ (sym (c .before .before .before .before .enum-told .given .1) ∙ c .before .before .before .before .before .before .first-above .ensures) (c .before .before .write-bytes .ensures)
+    pack-packed _ _ (search needs) _ (none-found _ (sym (c .before .before .before .before .enum-told .given .1) ∙ c .before .before .before .before .before .before .first-above .ensures)) (c .before .before .write-bytes .ensures)
 
 pub pack-spec : {M : Type 1} → statement M
 pack-spec =
