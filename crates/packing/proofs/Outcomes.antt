@@ -1,18 +1,17 @@
 -- Laws of the outcomes: what each way through packing and unpacking answers and leaves.
 use Prim.Native.Nat.{ℕ, _≤_, _<_}
-use mathlib.Core.Bool.{true, false}
+use mathlib.Core.Bool.{true}
 use mathlib.Core.List.{List, [], _∷_}
-use mathlib.Core.Path.{_≡_, refl}
+use mathlib.Core.Path.{_≡_}
 use lib.ListN.{length, getD, List·getD-eq-default}
 use native.Mathlib.Decide.{decLt}
 use native.Mathlib.Omega.{arith}
 use borrow.Author.Tests.{eq-eqb, ne-eqb, ltb-false, le-ltb}
-use Rattle.vocabulary.specs.Answer.{Answer, answer, judge}
-use Rattle.packing.specs.declared.Found.the-variants.{At}
+use Rattle.vocabulary.specs.Answer.{answer, judge}
+use Rattle.vocabulary.specs.Those.{some, smallest}
 use Rattle.packing.specs.Packed.{AllCells, quarter, packed, unpacked, unused}
 use Rattle.packing.specs.Outcome.{outcome, above, aboves, packs, unpacks}
-use Rattle.packing.specs.Found.{found}
-use Rattle.packing.proofs.Searches.{some-found, those-none, those-all}
+use Rattle.packing.proofs.Searches.{those-none, those-all}
 
 -- where no cell above 3 is found, all are cells
 pub all-cells : (cells : List ℕ) → aboves cells ≡ [] → AllCells cells
@@ -34,9 +33,9 @@ module _ (cells buffer : List ℕ) where
   pack-unequal g = simp (ne-eqb _ _ g)
 
   module _ (fits : length buffer ≡ quarter (length cells)) where
-    pub pack-above : (i : ℕ) → At i ≡ found (aboves cells) → outcome (answer 60 (i ∷ [])) buffer ≡ packs cells buffer
+    pub pack-above : (i : ℕ) → some (aboves cells) ≡ true → i ≡ smallest (aboves cells) → outcome (answer 60 (i ∷ [])) buffer ≡ packs cells buffer
     unfolding judge packs
-    pack-above i at = let f = some-found (aboves cells) i at in simp (eq-eqb _ _ fits, f .0, f .1)
+    pack-above i any is = simp (eq-eqb _ _ fits, any, is)
 
     pub pack-packed : (now : List ℕ) → aboves cells ≡ [] → now ≡ packed cells → outcome (answer 0 []) now ≡ packs cells buffer
     unfolding judge packs

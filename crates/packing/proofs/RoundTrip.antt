@@ -11,7 +11,7 @@ use native.Mathlib.Decide.{decLt}
 use native.Mathlib.Omega.{arith}
 use borrow.Author.Tests.{eqb-true, not-false}
 use Rattle.vocabulary.specs.Answer.{answer, check, judge}
-use Rattle.vocabulary.specs.Those.{some}
+use Rattle.packing.proofs.Searches.{some-nil}
 use Rattle.packing.specs.Packed.{AllCells, quarter, byteOf, byteAt, packed, from, cellAt, unpacked, unused}
 use Rattle.packing.specs.Outcome.{aboves, packs, unpacks}
 use Rattle.packing.specs.RoundTrip.{UnpackOfPack, PackOfUnpack}
@@ -155,10 +155,6 @@ unfolding judge
 passes n m xs ys true c e = absurd (suc-ne-zero n e)
 passes n m xs ys false true e = absurd (suc-ne-zero m e)
 passes n m xs ys false false e = (refl, refl)
-
-some-nil : (l : List ℕ) → some l ≡ false → l ≡ []
-some-nil [] e = refl
-some-nil (x ∷ xs) e = cc
 
 -- what packing accepts: the lengths match, and every cell is one; then it leaves the packed form
 pack-accepts : (cells buffer : List ℕ) → packs cells buffer .told .number ≡ 0 → AllCells cells × (packs cells buffer .left ≡ packed cells)

@@ -1,16 +1,13 @@
 -- Laws of searches: what `those` finds, step by step.
 use Prim.Native.Nat.{ℕ, zero, suc, _+_, _≤_, _<_}
-use mathlib.Core.Bool.{Bool, true, false, cond}
+use mathlib.Core.Bool.{Bool, true, false, cond, _||_}
 use mathlib.Core.List.{List, [], _∷_, _++_}
-use mathlib.Core.Path.{_≡_, refl, sym}
+use mathlib.Core.Path.{_≡_, refl, sym, ap}
 use native.Mathlib.Numerals.{add-one}
 use native.Mathlib.Nat.{le-antisymm, not-suc-le-zero}
 use native.Mathlib.Decide.{le-ind, decLt}
 use native.Mathlib.Omega.{arith}
 use Rattle.vocabulary.specs.Those.{those, some, smallest}
-use Rattle.packing.specs.declared.Found.{Found}
-use Rattle.packing.specs.declared.Found.the-variants.{At, Nothing}
-use Rattle.packing.specs.Found.{found}
 
 nil-append : (l m : List ℕ) → l ++ m ≡ [] → (l ≡ []) × (m ≡ [])
 nil-append [] m e = (refl, e)
@@ -23,25 +20,37 @@ cond-nil false n e = refl
 last : {i n : ℕ} → i < suc n → (i < n → ⊥) → i ≡ n
 last h g = omega arith
 
+-- what was found first stays first
+first-append : (l m : List ℕ) (i : ℕ) → (some l ≡ true) × (smallest l ≡ i) → (some (l ++ m) ≡ true) × (smallest (l ++ m) ≡ i)
+first-append [] m i e = let z : _≡_ {A = Bool} false true = e .0 in (cc, cc)
+first-append (x ∷ xs) m i e = (refl, e .1)
+
+some-append : (l : List ℕ) (b : Bool) (i : ℕ) → some (l ++ cond b (i ∷ []) []) ≡ (some l || b)
+some-append [] true i = refl
+some-append [] false i = refl
+some-append (x ∷ xs) b i = refl
+
 module _ (p : ℕ → Bool) where
   -- nothing so far and not at i: nothing up to i
   pub those-nothing : (i : ℕ) → those p i ≡ [] → p i ≡ false → those p (i + 1) ≡ []
   unfolding those
   those-nothing i none not = rw (add-one, none, not)
 
-  pub found-append : (l m : List ℕ) (i : ℕ) → found l ≡ At i → found (l ++ m) ≡ At i
-  found-append [] m i e = cc
-  found-append (x ∷ xs) m i e = e
-
   -- nothing so far and at i: the first is i
-  pub found-at : (i n : ℕ) → those p i ≡ [] → p i ≡ true → i < n → At i ≡ found (those p n)
+  pub smallest-at : (i n : ℕ) → those p i ≡ [] → p i ≡ true → i < n → i ≡ smallest (those p n)
   unfolding those
-  found-at i n none at h =
-      sym (le-ind (λ (m : ℕ). found (those p m) ≡ At i) (rw (none, at)) (λ m k e. found-append (those p m) _ i e) n h)
+  smallest-at i n none at h =
+      sym (le-ind (λ (m : ℕ). (some (those p m) ≡ true) × (smallest (those p m) ≡ i)) (rw (none, at) (refl, refl))
+      (λ m k e. first-append (those p m) _ i e) n h .1)
 
-  -- nothing to the end
-  pub found-nothing : (i n : ℕ) → those p i ≡ [] → n ≤ i → i ≤ n → Nothing ≡ found (those p n)
-  found-nothing i n none low high = rw (le-antisymm low high, none)
+  -- one number more
+  pub some-suc : (i : ℕ) {b : Bool} → b ≡ some (those p i) → (b || p i) ≡ some (those p (i + 1))
+  unfolding those
+  some-suc i so = rw (so, add-one) (sym (some-append (those p i) (p i) i))
+
+  -- the end of a search
+  pub those-end : (i n : ℕ) → n ≤ i → i ≤ n → those p i ≡ those p n
+  those-end i n low high = ap (those p) (le-antisymm high low)
 
   -- where no number passes, nothing is found
   pub those-all : (n : ℕ) → ((i : ℕ) → p i ≡ false) → those p n ≡ []
@@ -62,11 +71,7 @@ module _ (p : ℕ → Bool) where
       go (yes l) ih at = ih i l
       go (no g) ih at = rw (last h g) at
 
--- what a find says of the search
-pub some-found : (l : List ℕ) (i : ℕ) → At i ≡ found l → (some l ≡ true) × (smallest l ≡ i)
-some-found [] i e = let z : _≡_ {A = ℕ} 0 1 = cc in (cc, cc)
-some-found (x ∷ xs) i e = (refl, cc)
-
-pub none-found : (l : List ℕ) → Nothing ≡ found l → l ≡ []
-none-found [] e = refl
-none-found (x ∷ xs) e = cc
+-- a search that found none
+pub some-nil : (l : List ℕ) → some l ≡ false → l ≡ []
+some-nil [] e = refl
+some-nil (x ∷ xs) e = cc

@@ -1,12 +1,12 @@
 -- Laws of tabulated lists: length, elements, filling place by place.
 use Prim.Native.Nat.{ℕ, zero, suc, _+_, _≤_, _<_}
-use mathlib.Core.List.{List, [], _∷_, _++_, append-assoc, append-nil}
-use mathlib.Core.Path.{_≡_, refl, ap, sym, _∙_}
+use mathlib.Core.List.{List, [], append-assoc, append-nil}
+use mathlib.Core.Path.{_≡_, refl, ap, _∙_}
 use native.Mathlib.Numerals.{add-one}
 use native.Mathlib.Nat.{le-of-eq}
 use native.Mathlib.Decide.{le-ind}
 use native.Mathlib.Omega.{arith}
-use lib.ListN.{length, getD, drop, set, length-append, length-drop, List·getD-append, drop-of-length-le}
+use lib.ListN.{length, getD, drop, set, length-append, List·getD-append, drop-of-length-le}
 use lib.Seq.{drop-cons, drop-at, set-at, getD-at}
 use Rattle.packing.specs.Tabulate.{tabulate, filled}
 

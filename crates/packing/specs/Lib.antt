@@ -2,5 +2,4 @@ pub mod Tabulate
 pub mod Packed
 pub mod Outcome
 pub mod Answers
-pub mod Found
 pub mod RoundTrip

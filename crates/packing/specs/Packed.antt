@@ -20,6 +20,7 @@ byteOf a b c d = a + 4 * b + 16 * c + 64 * d
 abbrev pub byteAt : List ℕ → ℕ → ℕ
 byteAt cells k = byteOf (getD cells (4 * k) 0) (getD cells (4 * k + 1) 0) (getD cells (4 * k + 2) 0) (getD cells (4 * k + 3) 0)
 
+-- The packed form of a list of cells.
 unfoldable pub packed : List ℕ → List ℕ
 packed cells = tabulate (byteAt cells) (quarter (length cells))
 
@@ -31,6 +32,7 @@ from b j = b / 2 ^ (2 * j)
 abbrev pub cellAt : List ℕ → ℕ → ℕ
 cellAt bytes i = from (getD bytes (i / 4) 0) (i % 4) % 4
 
+-- The n cells of a packed form.
 unfoldable pub unpacked : ℕ → List ℕ → List ℕ
 unpacked n bytes = tabulate (cellAt bytes) n
 

@@ -1,32 +1,25 @@
 // Cells packed four to a byte, and back (document 01, 'The matrix').
 ghost use mathlib.Core.Path.{_≡_};
-ghost use mathlib.Core.List.{[]};
 ghost use Prim.Native.Nat.{_+_, _*_, _≤_, _<_};
 ghost use lib.ListN.{length, getD};
 ghost use Rattle.packing.specs.Packed.{AllCells, quarter, byteOf, byteAt, packed, from, cellAt, unpacked, unused};
+ghost use Rattle.vocabulary.specs.Those.{some, smallest};
 ghost use Rattle.packing.specs.Tabulate.{filled};
 ghost use Rattle.packing.specs.Outcome.{outcome, aboves, packs, unpacks};
 ghost use Rattle.packing.specs.Answers.{packing, unpacking};
-ghost use Rattle.packing.specs.Found.{found};
 
-// The answers of packing.
+// The answers of packing: 0; 60 with the place of the first cell above 3; 61, the lengths don't match.
 pub enum Packing {
     Packed,
     CellAbove(usize),
     Unequal,
 }
 
-// The answers of unpacking.
+// The answers of unpacking: 0; 62, unused bits of the last byte are set; 61, the lengths don't match.
 pub enum Unpacking {
     Unpacked,
     UnusedSet,
     Unequal,
-}
-
-// A place, if there is one.
-enum Found {
-    At(usize),
-    Nothing,
 }
 
 // The bytes that a number of cells takes: a quarter of it, rounded up.
@@ -36,19 +29,33 @@ fn bytes_for(cells: usize) -> usize
     cells / 4 + (cells % 4 + 3) / 4
 }
 
-// The first cell above 3.
+// Whether a cell is above 3. It goes through all cells: with no early end, many are judged by one instruction.
+// Invariant: `any` says whether one before i is.
+fn any_above(cells: &[u8]) -> bool
+    ensures { λ r. ⌜ r ≡ some (aboves (now (cells .entry))) ⌝ }
+{
+    let mut any = false;
+    let mut i = 0;
+    while i < cells.len() {
+        any = any | (cells[i] > 3);
+        i += 1;
+    }
+    any
+}
+
+// The place of the first cell above 3; 0 where there is none.
 // Invariant: no cell before i is above 3.
-fn first_above(cells: &[u8]) -> Found
-    ensures { λ r. ⌜ r ≡ found (aboves (now (cells .entry))) ⌝ }
+fn first_above(cells: &[u8]) -> usize
+    ensures { λ r. ⌜ r ≡ smallest (aboves (now (cells .entry))) ⌝ }
 {
     let mut i = 0;
     while i < cells.len() {
         if cells[i] > 3 {
-            return Found::At(i);
+            return i;
         }
         i += 1;
     }
-    Found::Nothing
+    0
 }
 
 // Four cells in a byte, the first in the lowest two bits.
@@ -110,16 +117,15 @@ fn write_bytes(cells: &[u8], bytes: &mut [u8])
     bytes[whole] = last_byte(cells, whole);
 }
 
-// Packs `cells` into `packed`.
+// Packs `cells` into `packed`; a refusal leaves `packed` as it was.
 pub fn pack(cells: &[u8], packed: &mut [u8]) -> Packing
     ensures { λ r. ⌜ outcome (packing r) (now (packed .exit)) ≡ packs (now (cells .entry)) (now (packed .entry)) ⌝ }
 {
     if packed.len() != bytes_for(cells.len()) {
         return Packing::Unequal;
     }
-    let above = first_above(cells);
-    if let Found::At(place) = above {
-        return Packing::CellAbove(place);
+    if any_above(cells) {
+        return Packing::CellAbove(first_above(cells));
     }
     write_bytes(cells, packed);
     Packing::Packed
@@ -173,7 +179,7 @@ fn write_cells(bytes: &[u8], cells: &mut [u8])
     write_rest(bytes, cells, 4 * whole);
 }
 
-// Unpacks `packed` into `cells`.
+// Unpacks `packed` into `cells`; a refusal leaves `cells` as they were.
 pub fn unpack(packed: &[u8], cells: &mut [u8]) -> Unpacking
     ensures { λ r. ⌜ outcome (unpacking r) (now (cells .exit)) ≡ unpacks (now (packed .entry)) (now (cells .entry)) ⌝ }
 {

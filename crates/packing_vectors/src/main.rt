@@ -136,8 +136,8 @@ fn round_trip() {
     word(b"\n");
 }
 
-// Packing: every length to 9, 60 at each place, 61 both ways.
-fn packs() {
+// Packing, every length to 9.
+fn pack_lengths() {
     pack_some(0, 0);
     pack_some(1, 1);
     pack_some(2, 1);
@@ -148,6 +148,10 @@ fn packs() {
     pack_some(7, 2);
     pack_some(8, 2);
     pack_some(9, 3);
+}
+
+// 60 at each place, and at the smaller of two.
+fn pack_aboves() {
     pack_above(0, 8);
     pack_above(1, 8);
     pack_above(2, 8);
@@ -158,6 +162,10 @@ fn packs() {
     pack_above(7, 8);
     pack_above(8, 8);
     pack_above(6, 2);
+}
+
+// 61 in packing, both ways.
+fn pack_unequal() {
     pack_some(0, 1);
     pack_some(1, 0);
     pack_some(4, 2);
@@ -166,8 +174,8 @@ fn packs() {
     pack_some(9, 2);
 }
 
-// Unpacking: every length to 9, 61 both ways, 62 at each number of unused bits.
-fn unpacks() {
+// Unpacking, every length to 9.
+fn unpack_lengths() {
     unpack_some([0, 0, 0], 0, 0);
     unpack_some([2, 0, 0], 1, 1);
     unpack_some([14, 0, 0], 1, 2);
@@ -178,6 +186,10 @@ fn unpacks() {
     unpack_some([27, 54, 0], 2, 7);
     unpack_some([27, 255, 0], 2, 8);
     unpack_some([27, 228, 3], 3, 9);
+}
+
+// 61 in unpacking, both ways; 62 at each number of unused bits, and only in the last byte.
+fn unpack_refused() {
     unpack_some([0, 0, 0], 1, 0);
     unpack_some([0, 0, 0], 0, 1);
     unpack_some([255, 0, 0], 2, 4);
@@ -190,11 +202,15 @@ fn unpacks() {
     unpack_some([255, 7, 3], 3, 9);
 }
 
-// Serials: the ends of the round, and every kind of way, from 0 and across the end.
-fn serials() {
+// Serials: the ends of the round.
+fn nexts() {
     show_next(0);
     show_next(65_534);
     show_next(65_535);
+}
+
+// Every kind of way, from 0 and across the end of the round.
+fn compares() {
     show_compare(0, 0);
     show_compare(0, 1);
     show_compare(0, 32_767);
@@ -211,8 +227,12 @@ fn serials() {
 }
 
 fn main() {
-    packs();
-    unpacks();
+    pack_lengths();
+    pack_aboves();
+    pack_unequal();
+    unpack_lengths();
+    unpack_refused();
     round_trip();
-    serials();
+    nexts();
+    compares();
 }

@@ -1,12 +1,13 @@
 -- `first_above` meets its contract. The invariant: the search found nothing below i.
-use Rattle.packing.proofs.Searches.{those-nothing, found-at, found-nothing}
+use mathlib.Core.Path.{ap, sym, _∙_}
 use Prim.Native.Nat.{_≤_, _-_}
 use mathlib.Core.Path.{_≡_, refl}
-use mathlib.Core.List.{[]}
 use lib.ListN.{length}
-use borrow.Author.Tests.{lt-ltb, le-ltb}
-use Rattle.vocabulary.specs.Those.{those}
 use Rattle.packing.specs.Outcome.{above, aboves}
+use Rattle.vocabulary.specs.Those.{those, smallest}
+use mathlib.Core.List.{[]}
+use borrow.Author.Tests.{lt-ltb, le-ltb}
+use Rattle.packing.proofs.Searches.{those-nothing, smallest-at, those-end}
 use borrow.Author.Needs.{needs}
 use Rattle.packing.proofs.first_above.Statement.{statement}
 use Rattle.packing.proofs.first_above.Tie as tie
@@ -28,7 +29,7 @@ shared-slice-read-if1 c = search needs
 returns : tie.Need-returns Inv-loop μ-loop
 unfolding aboves
 returns c =
-    found-at _ _ _ (c .before .before .before .loop .inv .1) (lt-ltb _ _ (c .if1 .taken)) (c .before .before .loop-test .taken)
+    smallest-at _ _ _ (c .before .before .before .loop .inv .1) (lt-ltb _ _ (c .if1 .taken)) (c .before .before .loop-test .taken)
 
 add-i : tie.Need-add-i Inv-loop μ-loop
 add-i c = search needs
@@ -43,7 +44,7 @@ loop-again c =
 returns-2 : tie.Need-returns-2 Inv-loop μ-loop
 unfolding aboves
 returns-2 c =
-    found-nothing _ _ _ (c .before .loop .inv .1) (c .loop-test .left) (c .before .loop .inv .0)
+    ap smallest (sym (c .before .loop .inv .1) ∙ those-end _ _ _ (c .loop-test .left) (c .before .loop .inv .0))
 
 pub first-above-spec : {M : Type 1} → statement M
 first-above-spec =

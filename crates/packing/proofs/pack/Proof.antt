@@ -1,6 +1,6 @@
 -- `pack` meets its contract: each return is one law of the outcome.
 use Rattle.packing.proofs.Outcomes.{all-cells, pack-unequal, pack-above, pack-packed}
-use Rattle.packing.proofs.Searches.{none-found}
+use Rattle.packing.proofs.Searches.{some-nil}
 use mathlib.Core.Path.{_∙_, sym}
 use borrow.Author.Needs.{needs}
 use Rattle.packing.proofs.pack.Statement.{statement}
@@ -13,29 +13,26 @@ returns : tie.Need-returns
 returns c =
     pack-unequal _ _ (search needs)
 
+any-above-requires : tie.Need-any-above-requires
+any-above-requires c κs = search needs
+
 first-above-requires : tie.Need-first-above-requires
 first-above-requires c κs = search needs
 
-enum-known-above : tie.Need-enum-known-above
-enum-known-above c = search needs
-
 returns-2 : tie.Need-returns-2
 returns-2 c =
-    pack-above _ _ (search needs) _ (sym (c .before .above .given .1) ∙ c .before .before .before .first-above .ensures)
-
-enum-told : tie.Need-enum-told
-enum-told c = search needs
+    pack-above _ _ (search needs) _ (sym (c .before .before .any-above .ensures) ∙ c .before .if2 .taken) (c .first-above .ensures)
 
 write-bytes-requires : tie.Need-write-bytes-requires
 write-bytes-requires c κs =
-    (search needs, all-cells _ (none-found _ (sym (c .before .enum-told .given .1) ∙ c .before .before .before .first-above .ensures)))
+    (search needs, all-cells _ (some-nil _ (sym (c .before .before .any-above .ensures) ∙ c .before .if2 .left)))
 
 same-length : tie.Need-same-length
 same-length c = search needs
 
 returns-3 : tie.Need-returns-3
 returns-3 c =
-    pack-packed _ _ (search needs) _ (none-found _ (sym (c .before .before .before .before .enum-told .given .1) ∙ c .before .before .before .before .before .before .first-above .ensures)) (c .before .before .write-bytes .ensures)
+    pack-packed _ _ (search needs) _ (some-nil _ (sym (c .before .before .before .before .before .any-above .ensures) ∙ c .before .before .before .before .if2 .left)) (c .before .before .write-bytes .ensures)
 
 pub pack-spec : {M : Type 1} → statement M
 pack-spec =
@@ -43,10 +40,9 @@ pack-spec =
     (tie.spec
     bytes-for-requires
     returns
+    any-above-requires
     first-above-requires
-    enum-known-above
     returns-2
-    enum-told
     write-bytes-requires
     same-length
     returns-3)

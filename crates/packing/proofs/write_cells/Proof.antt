@@ -1,13 +1,12 @@
 -- `write_cells` meets its contract. The invariant: the cells of the first k bytes are written, the others as they were.
 use lib.ListN.{length-set}
 use Rattle.packing.proofs.Cells.{filled-byte}
-use Prim.Native.Nat.{_≤_, _-_, _+_, _*_, _%_}
+use Prim.Native.Nat.{_≤_, _-_, _+_, _*_}
 use mathlib.Core.Path.{_≡_, refl, ap, _∙_}
 use lib.ListN.{length}
 use Rattle.packing.specs.Packed.{cellAt, unpacked}
 use Rattle.packing.specs.Tabulate.{filled}
-use Rattle.packing.proofs.Cells.{cell-at}
-use Rattle.packing.proofs.Tabulates.{filled-zero, filled-again, set-four, filled-length}
+use Rattle.packing.proofs.Tabulates.{filled-zero, filled-again}
 use native.Mathlib.Omega.{arith}
 use borrow.Author.Needs.{needs}
 use Rattle.packing.proofs.write_cells.Statement.{statement}
