@@ -97,7 +97,7 @@ module _ (r : Register) (ok : Accepted r) (σ : State) (kept : Kept r σ) (q : R
   unfolding requestChecks
   kind-known = not-false (leb 1 (q .kind) && leb (q .kind) 4) (early .1 .1 .1 .0)
 
-  readable : (f : ℕ) → σ .rights .read s f ≡ true → canRead (cell row f) ≡ true
+  pub readable : (f : ℕ) → σ .rights .read s f ≡ true → canRead (cell row f) ≡ true
   readable f e = shown-read r σ (kept .shown) s f ∙ e
 
   writable : (f : ℕ) → σ .rights .write s f ≡ true → canWrite (cell row f) ≡ true
@@ -210,7 +210,7 @@ module _ (r : Register) (ok : Accepted r) (σ : State) (kept : Kept r σ) (q : R
   -- ---- a grant
 
   module _ (clear : Passed (wallChecks r row o (q .kind))) where
-    no-rivals : (f : ℕ) → f < folders r → rival r row o f ≡ false
+    pub no-rivals : (f : ℕ) → f < folders r → rival r row o f ≡ false
     unfolding wallChecks rivals
     no-rivals = those-empty (rival r row o) (folders r) (some-none _ (clear .0))
 
@@ -274,7 +274,7 @@ module _ (r : Register) (ok : Accepted r) (σ : State) (kept : Kept r σ) (q : R
           held = more-kept (classWall r) (σ .rights) _ (σ .held) (λ t f e. rw e) (kept .held);
         }
 
-  wall-granted : wallAnswer r row o (q .kind) .number ≡ 0 → Passed (wallChecks r row o (q .kind)) × (wallAnswer r row o (q .kind) ≡ answer 0 (lost r row o (q .kind)))
+  pub wall-granted : wallAnswer r row o (q .kind) .number ≡ 0 → Passed (wallChecks r row o (q .kind)) × (wallAnswer r row o (q .kind) ≡ answer 0 (lost r row o (q .kind)))
   unfolding wallAnswer wallChecks
   wall-granted e = judge-silent (wallChecks r row o (q .kind)) (answer 0 (lost r row o (q .kind))) 0 refl e
 
@@ -336,9 +336,13 @@ refused-needful r ok σ kept q log e =
     by-logged : (a : Answer) → byWall a ≡ true → isLogged a ≡ true
     by-logged a e = rw e (or-true (eqb (a .number) 0))
 
+-- What every list of steps from a blank matrix keeps.
+pub kept-after : (r : Register) → Accepted r → (steps : List Step) → Kept r (run r (blank r) steps)
+kept-after r ok steps = run-kept r ok (blank r) (blank-kept r) steps
+
 pub demand3 : Demand3
 demand3 r ok steps =
-    let σ = run-kept r ok (blank r) (blank-kept r) in
+    let σ = kept-after r ok in
     record {
       unbroken = unbroken (classWall r) _ _ (σ steps .clean) (σ steps .held);
       shown = σ steps .shown;

@@ -9,4 +9,5 @@ pub mod Logged
 pub mod Lost
 pub mod Stages
 pub mod FirstRows
+pub mod Papers
 pub mod Session

@@ -5,4 +5,5 @@ pub mod Stages
 pub mod Wall
 pub mod History
 pub mod Demand3
+pub mod Papers
 pub mod Session
