@@ -15,14 +15,14 @@ use Rattle.vocabulary.proofs.Bools.{both, not-both, true-or-false, neither, con
 use Rattle.audit_log.specs.Record.{recordBytes}
 use Rattle.register.specs.Register.{Register, registerOf, folders, inRange, registerChecks, registerAnswer}
 use Rattle.register.proofs.Answers.{inRange-folders}
-use Rattle.monitor.specs.Rules.{rowOf, withRow, rowAfter, rivals, foreigners, stakes, lost}
-use Rattle.monitor.specs.Outcome.{Request, Log, Outcome, requestChecks, wallChecks, wallAnswer, decision, byWall, isLogged, recordOf, unchanged, matrixAfter, logged, outcome, told}
+use Rattle.policy.specs.Rules.{rowOf, withRow, rowAfter, rivals, foreigners, stakes, lost}
+use Rattle.policy.specs.Outcome.{Request, Log, Outcome, requestChecks, wallChecks, wallAnswer, decision, byWall, isLogged, recordOf, unchanged, matrixAfter, logged, outcome, told}
 use Rattle.monitor.specs.Reply.{replyAnswer}
 use Rattle.monitor.specs.Stages.{labels, frontChecks, rowChecks, rowLeft, rowOutcome}
 use Rattle.monitor.specs.declared.Answer.the-variants.{Granted, OutOfRange, LoneZero, TwoClasses, MatrixLength, UnknownLogin, UnknownFolder, UnknownKind, BadCell, BadEnd, Rival, Foreign, AtStake, NoRoom}
 use Rattle.monitor.specs.declared.Answer as reply
-use Rattle.monitor.proofs.Outcome.{logged-silent, outcome-unlogged}
-use Rattle.monitor.proofs.Rows.{withRow-rowOf}
+use Rattle.policy.proofs.Outcome.{logged-silent, outcome-unlogged}
+use Rattle.policy.proofs.Rows.{withRow-rowOf}
 
 pub product-fits : {p f : ℕ} → p ≤ 128 → f ≤ 512 → p * f ≤ 65536
 product-fits {p} {f} a b = le-trans (mul-le-mul-right f a) (mul-le-mul-left 128 b)

@@ -12,8 +12,8 @@ use Rattle.vocabulary.specs.Those.{those, some, smallest}
 use Rattle.vocabulary.proofs.Those.{first-some, first-none}
 use Rattle.vocabulary.proofs.Bools.{either}
 use Rattle.register.specs.Label.{labelOf}
-use Rattle.monitor.specs.Rules.{writes, rival, foreign, atStake, rivals, foreigners, stakes, lost}
-use Rattle.monitor.specs.Outcome.{wallChecks, wallAnswer}
+use Rattle.policy.specs.Rules.{writes, rival, foreign, atStake, rivals, foreigners, stakes, lost}
+use Rattle.policy.specs.Outcome.{wallChecks, wallAnswer}
 use Rattle.monitor.specs.Stages.{labels, fitsAt}
 use Rattle.monitor.specs.declared.rules.Sort.{Sort}
 use Rattle.monitor.specs.declared.rules.Sort.the-variants.{Rival, Foreign, AtStake}

@@ -12,8 +12,8 @@ use Rattle.vocabulary.specs.Those.{those, some, smallest}
 use Rattle.vocabulary.proofs.Bools.{true-or-false}
 use Rattle.register.specs.Label.{labelOf}
 use Rattle.register.specs.Register.{Register}
-use Rattle.monitor.specs.Rules.{writes, rivals, foreigners, stakes}
-use Rattle.monitor.specs.Outcome.{Request, Log, wallChecks, wallAnswer, isLogged, logged, unchanged}
+use Rattle.policy.specs.Rules.{writes, rivals, foreigners, stakes}
+use Rattle.policy.specs.Outcome.{Request, Log, wallChecks, wallAnswer, isLogged, logged, unchanged}
 use Rattle.monitor.specs.Stages.{labels, fitsAt, rowChecks, rowLeft, rowOutcome}
 use Rattle.monitor.specs.declared.rules.Sort.the-variants.{TooLarge}
 use Rattle.monitor.proofs.Ruled.{first, found, none}

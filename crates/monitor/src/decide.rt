@@ -8,8 +8,8 @@ ghost use Prim.Native.Nat.{_≤_, _<_};
 ghost use mathlib.Core.Path.{_≡_};
 ghost use lib.ListN.{length, getD};
 ghost use Rattle.register.specs.Label.{labelOf};
-ghost use Rattle.monitor.specs.Rules.{lost};
-ghost use Rattle.monitor.specs.Outcome.{wallAnswer};
+ghost use Rattle.policy.specs.Rules.{lost};
+ghost use Rattle.policy.specs.Outcome.{wallAnswer};
 ghost use Rattle.monitor.specs.Stages.{labels, rulingAnswer};
 
 // What the wall says of a request.

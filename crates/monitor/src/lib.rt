@@ -4,7 +4,7 @@ use ids::FolderNo;
 use ids::LoginNo;
 ghost use mathlib.Core.Path.{_≡_};
 ghost use Rattle.register.specs.Register.{registerOf};
-ghost use Rattle.monitor.specs.Outcome.{outcome, told};
+ghost use Rattle.policy.specs.Outcome.{outcome, told};
 ghost use Rattle.monitor.specs.Reply.{requestOf, logOf, replied};
 
 mod decide; // the wall's answer on a row

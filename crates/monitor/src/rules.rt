@@ -4,7 +4,7 @@ ghost use Prim.Native.Nat.{_≤_};
 ghost use mathlib.Core.Path.{_≡_};
 ghost use mathlib.Core.Bool.{not, _&&_, _||_};
 ghost use lib.Dec.{eqb, leb};
-ghost use Rattle.monitor.specs.Rules.{canRead, canWrite, reads, writes, revokes, cellFor};
+ghost use Rattle.policy.specs.Rules.{canRead, canWrite, reads, writes, revokes, cellFor};
 ghost use Rattle.monitor.specs.Stages.{fits, cellLeft};
 
 // What a walk over a row looks for.

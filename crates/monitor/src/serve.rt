@@ -11,7 +11,7 @@ use ids::LoginNo;
 ghost use Prim.Native.Nat.{_≤_, _<_};
 ghost use mathlib.Core.Path.{_≡_};
 ghost use lib.ListN.{length};
-ghost use Rattle.monitor.specs.Outcome.{wallAnswer, logged, told};
+ghost use Rattle.policy.specs.Outcome.{wallAnswer, logged, told};
 ghost use Rattle.monitor.specs.Reply.{requestOf, logOf, replied};
 ghost use Rattle.monitor.specs.Stages.{labels, rowLeft, rowOutcome};
 

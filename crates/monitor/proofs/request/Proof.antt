@@ -1,6 +1,6 @@
 use Rattle.monitor.proofs.FirstRows.{product-fits, opened, inMatrix, outcome-open, outcome-refused, rowOutcome-labels}
-use Rattle.monitor.proofs.Rows.{row-fits, length-rowOf}
-use Rattle.monitor.specs.Rules.{rowOf}
+use Rattle.policy.proofs.Rows.{row-fits, length-rowOf}
+use Rattle.policy.specs.Rules.{rowOf}
 use native.Mathlib.Nat.{add-sub-cancel-left}
 use Rattle.monitor.specs.Reply.{requestOf, logOf}
 use Rattle.register.specs.Register.{registerOf}

@@ -5,10 +5,10 @@ use mathlib.Core.Bool.{true}
 use mathlib.Core.List.{List, _∷_, _++_}
 use lib.ListN.{length}
 use Rattle.register.specs.Register.{Register, Accepted, folders}
-use Rattle.monitor.specs.Rules.{rowOf, cell, cellFor}
-use Rattle.monitor.specs.Outcome.{Request, Log, byWall, outcome}
-use Rattle.monitor.specs.Wall.{Rights, Broken, Needful, classWall}
-use Rattle.monitor.specs.History.{Step, ask, State, blank, run}
+use Rattle.policy.specs.Rules.{rowOf, cell, cellFor}
+use Rattle.policy.specs.Outcome.{Request, Log, byWall, outcome}
+use Rattle.policy.specs.Wall.{Rights, Broken, Needful, classWall}
+use Rattle.policy.specs.History.{Step, ask, State, blank, run}
 
 -- The cell of the rights that stand of s on f.
 abbrev pub cellStanding : Rights → ℕ → ℕ → ℕ

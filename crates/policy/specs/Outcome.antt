@@ -10,7 +10,7 @@ use Rattle.vocabulary.specs.Those.{those, some, smallest}
 use Rattle.serial.specs.Serial.{following}
 use Rattle.audit_log.specs.Record.{Record, recordBytes}
 use Rattle.register.specs.Register.{Register, folders, registerChecks}
-use Rattle.monitor.specs.Rules.{rowOf, withRow, cell, reads, writes, rivals, foreigners, stakes, lost, rowAfter}
+use Rattle.policy.specs.Rules.{rowOf, withRow, cell, reads, writes, rivals, foreigners, stakes, lost, rowAfter}
 
 -- What a login asks for.
 pub record Request : Type 0 where

@@ -15,8 +15,8 @@ use Rattle.vocabulary.proofs.Those.{those-empty, some-none}
 use Rattle.vocabulary.proofs.Judge.{Passed, judge-silent}
 use Rattle.vocabulary.proofs.Bools.{both, not-both, eqb-self}
 use Rattle.register.specs.Register.{Register, folders, classOf, clientOf, inRange, loneZero, differs, earlier, later, registerChecks, registerAnswer, Accepted}
-use Rattle.monitor.specs.Wall.{OneClass, classWall}
-use Rattle.monitor.proofs.Wall.{Lawful}
+use Rattle.policy.specs.Wall.{OneClass, classWall}
+use Rattle.policy.proofs.Wall.{Lawful}
 
 passed : (r : Register) → Accepted r → Passed (registerChecks r)
 unfolding registerAnswer registerChecks

@@ -4,9 +4,9 @@ use mathlib.Core.Path.{_≡_}
 use mathlib.Core.Bool.{true}
 use mathlib.Core.List.{List}
 use Rattle.register.specs.Register.{Register, Accepted, classOf, clientOf}
-use Rattle.monitor.specs.Outcome.{Request, Log, outcome}
-use Rattle.monitor.specs.Wall.{Own, classWall}
-use Rattle.monitor.specs.History.{Step, blank, run}
+use Rattle.policy.specs.Outcome.{Request, Log, outcome}
+use Rattle.policy.specs.Wall.{Own, classWall}
+use Rattle.policy.specs.History.{Step, blank, run}
 
 -- Theorem 1: 'Once a subject has accessed an object the only other objects accessible by that subject lie within the same company
 -- dataset or within a different conflict of interest class.' A request for a folder of the class of one that s may read, and of

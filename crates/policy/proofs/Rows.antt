@@ -8,7 +8,7 @@ use native.Mathlib.Decide.{decLt}
 use lib.ListN.{length, take, drop, length-append, length-take, length-drop, take-append-drop, drop-of-length-le}
 use lib.Seq.{length-take-le, take-at, drop-at, drop-append-le, take-append-le, drop-append-add, drop-drop, take-nil}
 use Rattle.register.specs.Register.{Register, folders}
-use Rattle.monitor.specs.Rules.{rowOf, withRow}
+use Rattle.policy.specs.Rules.{rowOf, withRow}
 
 -- A row of f cells lies within the rows up to a later one.
 pub row-fits : (s p f : ℕ) → s < p → s * f + f ≤ p * f

@@ -5,7 +5,7 @@ use mathlib.Core.Bool.{cond}
 use mathlib.Core.List.{List, [], _∷_}
 use lib.ListN.{replicate, take, drop}
 use Rattle.register.specs.Register.{Register, folders}
-use Rattle.monitor.specs.Outcome.{Request, Log, Outcome, outcome, isLogged}
+use Rattle.policy.specs.Outcome.{Request, Log, Outcome, outcome, isLogged}
 
 -- A printed line: serial, answer and its folder list, or `-` and the number of a request that was not logged.
 pub data Line : Type 0 where

@@ -15,11 +15,11 @@ use Rattle.vocabulary.proofs.Those.{member-those}
 use Rattle.vocabulary.proofs.Each.{length-each, getD-each}
 use Rattle.vocabulary.proofs.Bools.{not-both, eqb-self}
 use Rattle.register.specs.Register.{Register, folders}
-use Rattle.monitor.specs.Rules.{rowOf, withRow, cell, canRead, canWrite, cellFor, reads, writes, revokes, atStake, lost, cellAfter, rowAfter}
-use Rattle.monitor.specs.Wall.{Rights, afterGrant}
-use Rattle.monitor.specs.History.{State, blank}
-use Rattle.monitor.specs.Demand3.{Shows, cellStanding}
-use Rattle.monitor.proofs.Rows.{length-rowOf, length-withRow, rowOf-withRow, rowOf-withRow-other}
+use Rattle.policy.specs.Rules.{rowOf, withRow, cell, canRead, canWrite, cellFor, reads, writes, revokes, atStake, lost, cellAfter, rowAfter}
+use Rattle.policy.specs.Wall.{Rights, afterGrant}
+use Rattle.policy.specs.History.{State, blank}
+use Rattle.policy.specs.Demand3.{Shows, cellStanding}
+use Rattle.policy.proofs.Rows.{length-rowOf, length-withRow, rowOf-withRow, rowOf-withRow-other}
 
 -- A cell tells its two rights.
 pub canRead-cellFor : (a b : Bool) → canRead (cellFor a b) ≡ a

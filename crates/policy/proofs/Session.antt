@@ -1,8 +1,8 @@
 -- The table L0 to L11 holds, by computation.
 use mathlib.Core.Path.{refl}
-use Rattle.monitor.specs.Session.{Table, session}
-use Rattle.monitor.specs.Outcome.{outcome, logged, decision, wallAnswer, wallChecks, requestChecks}
-use Rattle.monitor.specs.Rules.{rivals, foreigners, stakes, lost, rowAfter}
+use Rattle.policy.specs.Session.{Table, session}
+use Rattle.policy.specs.Outcome.{outcome, logged, decision, wallAnswer, wallChecks, requestChecks}
+use Rattle.policy.specs.Rules.{rivals, foreigners, stakes, lost, rowAfter}
 use Rattle.register.specs.Register.{registerChecks, earlier, later}
 use Rattle.vocabulary.specs.Answer.{judge}
 use Rattle.vocabulary.specs.Those.{those}

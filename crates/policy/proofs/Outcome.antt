@@ -12,8 +12,8 @@ use Rattle.vocabulary.proofs.Judge.{Passed, noneSays, judge-silent}
 use Rattle.vocabulary.proofs.Bools.{either, not-both, true-or-false}
 use Rattle.audit_log.specs.Record.{recordBytes}
 use Rattle.register.specs.Register.{Register, registerChecks}
-use Rattle.monitor.specs.Rules.{rowOf}
-use Rattle.monitor.specs.Outcome.{Request, Log, Outcome, requestChecks, wallAnswer, decision, isLogged, recordOf, unchanged, matrixAfter, logged, outcome}
+use Rattle.policy.specs.Rules.{rowOf}
+use Rattle.policy.specs.Outcome.{Request, Log, Outcome, requestChecks, wallAnswer, decision, isLogged, recordOf, unchanged, matrixAfter, logged, outcome}
 
 -- An answer that is to be logged is none of a table's whose checks have other numbers.
 pub logged-silent : (table : List Check) (x : Answer) →

@@ -8,8 +8,8 @@ use lib.Dec.{eqb}
 use borrow.Author.Tests.{eqb-true, not-true}
 use Rattle.vocabulary.specs.Those.{member}
 use Rattle.vocabulary.proofs.Bools.{both, either, not-both, eqb-self}
-use Rattle.monitor.specs.Rules.{reads, writes}
-use Rattle.monitor.specs.Wall.{Wall, Own, Rights, joined, asked, afterGrant, Held, Use, reading, writing, used, TwoHeld, Strayed, Broken, Breaks, Needful}
+use Rattle.policy.specs.Rules.{reads, writes}
+use Rattle.policy.specs.Wall.{Wall, Own, Rights, joined, asked, afterGrant, Held, Use, reading, writing, used, TwoHeld, Strayed, Broken, Breaks, Needful}
 
 -- What the argument asks of a notion of conflict.
 pub record Lawful (w : Wall) : Type 0 where

@@ -15,15 +15,15 @@ use Rattle.vocabulary.proofs.Those.{those-empty, some-none, smallest-holds, mem
 use Rattle.vocabulary.proofs.Judge.{Passed, judge-silent, passed-append}
 use Rattle.vocabulary.proofs.Bools.{both, either, not-both, true-or-false, and-both, neither}
 use Rattle.register.specs.Register.{Register, folders, classOf, clientOf, sanitised, registerChecks, Accepted}
-use Rattle.monitor.specs.Rules.{rowOf, withRow, cell, canRead, canWrite, reads, writes, revokes, rival, foreign, atStake, rivals, foreigners, stakes, lost, rowAfter}
-use Rattle.monitor.specs.Outcome.{Request, Log, outcome, requestChecks, wallChecks, wallAnswer, byWall, isLogged, matrixAfter}
-use Rattle.monitor.specs.Wall.{Rights, Held, Own, Broken, Needful, OneClass, classWall, joined, afterGrant, Use, used}
-use Rattle.monitor.specs.History.{Step, ask, make, State, blank, rightsAfter, next, run}
-use Rattle.monitor.specs.Demand3.{Shows, NeedfulRefusals, Safe, Demand3}
-use Rattle.monitor.proofs.Accepted.{lawful, class-zero, client-zero, conflict-class}
-use Rattle.monitor.proofs.Wall.{Clean, Contained, Grantable, unbroken, used-kept, more-kept, grant-clean, joined-read, joined-write, asked-read, asked-write, meets, strays}
-use Rattle.monitor.proofs.Outcome.{met, Decided, outcome-cases}
-use Rattle.monitor.proofs.Shown.{blank-shown, shown-read, shown-write, read-known, write-known, grant-length, grant-cells}
+use Rattle.policy.specs.Rules.{rowOf, withRow, cell, canRead, canWrite, reads, writes, revokes, rival, foreign, atStake, rivals, foreigners, stakes, lost, rowAfter}
+use Rattle.policy.specs.Outcome.{Request, Log, outcome, requestChecks, wallChecks, wallAnswer, byWall, isLogged, matrixAfter}
+use Rattle.policy.specs.Wall.{Rights, Held, Own, Broken, Needful, OneClass, classWall, joined, afterGrant, Use, used}
+use Rattle.policy.specs.History.{Step, ask, make, State, blank, rightsAfter, next, run}
+use Rattle.policy.specs.Demand3.{Shows, NeedfulRefusals, Safe, Demand3}
+use Rattle.policy.proofs.Accepted.{lawful, class-zero, client-zero, conflict-class}
+use Rattle.policy.proofs.Wall.{Clean, Contained, Grantable, unbroken, used-kept, more-kept, grant-clean, joined-read, joined-write, asked-read, asked-write, meets, strays}
+use Rattle.policy.proofs.Outcome.{met, Decided, outcome-cases}
+use Rattle.policy.proofs.Shown.{blank-shown, shown-read, shown-write, read-known, write-known, grant-length, grant-cells}
 
 -- What every state of a history keeps.
 pub record Kept (r : Register) (σ : State) : Type 0 where

@@ -6,8 +6,8 @@ use lib.ListN.{replicate}
 use lib.Dec.{eqb}
 use Rattle.vocabulary.specs.Answer.{Answer}
 use Rattle.register.specs.Register.{Register, folders}
-use Rattle.monitor.specs.Outcome.{Request, Log, Outcome, outcome}
-use Rattle.monitor.specs.Wall.{Rights, noRights, afterGrant, Held, atFirst, Use, used, classWall}
+use Rattle.policy.specs.Outcome.{Request, Log, Outcome, outcome}
+use Rattle.policy.specs.Wall.{Rights, noRights, afterGrant, Held, atFirst, Use, used, classWall}
 
 -- A step: a request, with any log handed to it, or a use.
 pub data Step : Type 0 where

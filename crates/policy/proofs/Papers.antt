@@ -9,13 +9,13 @@ use lib.Dec.{eqb}
 use borrow.Author.Tests.{eq-eqb, ne-eqb}
 use Rattle.vocabulary.proofs.Bools.{not-both}
 use Rattle.register.specs.Register.{Register, Accepted, classOf, clientOf}
-use Rattle.monitor.specs.Outcome.{Request, Log, outcome}
-use Rattle.monitor.specs.Wall.{OneClass, classWall}
-use Rattle.monitor.specs.History.{Step, State, blank, run}
-use Rattle.monitor.specs.Papers.{Theorem1, Theorem2, Theorem4}
-use Rattle.monitor.proofs.Outcome.{Decided, outcome-cases}
-use Rattle.monitor.proofs.Shown.{read-known}
-use Rattle.monitor.proofs.Demand3.{Kept, kept-after, readable, wall-granted, no-rivals}
+use Rattle.policy.specs.Outcome.{Request, Log, outcome}
+use Rattle.policy.specs.Wall.{OneClass, classWall}
+use Rattle.policy.specs.History.{Step, State, blank, run}
+use Rattle.policy.specs.Papers.{Theorem1, Theorem2, Theorem4}
+use Rattle.policy.proofs.Outcome.{Decided, outcome-cases}
+use Rattle.policy.proofs.Shown.{read-known}
+use Rattle.policy.proofs.Demand3.{Kept, kept-after, readable, wall-granted, no-rivals}
 
 pub theorem1 : Theorem1
 theorem1 r ok steps f q log may class other granted =
