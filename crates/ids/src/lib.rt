@@ -23,8 +23,8 @@ pub fn same_client(a: ClientNo, b: ClientNo) -> bool
 }
 
 // Whether two folders' classes are one class.
-pub fn same_class(a: ClassNo, b: ClassNo) -> bool
-    ensures { λ r. ⌜ r ≡ eqb (a .0) (b .0) ⌝ }
+pub fn same_class(c: ClassNo, d: ClassNo) -> bool
+    ensures { λ r. ⌜ r ≡ eqb (c .0) (d .0) ⌝ }
 {
-    a.0 == b.0
+    c.0 == d.0
 }
