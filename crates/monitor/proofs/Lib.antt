@@ -1,7 +1,5 @@
-pub mod Wall
-pub mod Accepted
-pub mod Rows
-pub mod Outcome
-pub mod Shown
-pub mod Demand3
-pub mod Session
+pub mod Ruled
+pub mod Logged
+pub mod Lost
+pub mod Stages
+pub mod FirstRows

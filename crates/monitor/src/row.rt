@@ -2,10 +2,13 @@
 use crate::rules;
 use crate::rules::Sort;
 use register::Label;
+ghost use Prim.Native.Nat.{_≤_};
 ghost use mathlib.Core.Path.{_≡_};
-ghost use lib.ListN.{length, getD};
+ghost use mathlib.Core.Bool.{cond};
+ghost use lib.ListN.{length, getD, take};
 ghost use Rattle.vocabulary.specs.Those.{those};
-ghost use Rattle.monitor.specs.Stages.{fitsAt};
+ghost use Rattle.vocabulary.specs.Each.{each};
+ghost use Rattle.monitor.specs.Stages.{fitsAt, leftAt, lostAt};
 
 // The first folder of the sort looked for, or the row's length. What the walk has passed has none.
 pub(crate) fn find(sort: Sort, row: &[u8], classes: &[u16], clients: &[u16], o: Label) -> usize
@@ -20,4 +23,76 @@ pub(crate) fn find(sort: Sort, row: &[u8], classes: &[u16], clients: &[u16], o: 
         f += 1;
     }
     f
+}
+
+// One for a test that holds.
+fn one_if(b: bool) -> usize
+    ensures { λ r. ⌜ (r ≡ cond b 1 0) × (r ≤ 1) ⌝ }
+{
+    if b { 1 } else { 0 }
+}
+
+// Lists the folders at stake, rising, and says how many. What is listed so far are those that the walk has passed.
+pub(crate) fn list_stakes(
+    row: &[u8],
+    classes: &[u16],
+    clients: &[u16],
+    o: Label,
+    list: &mut [u16],
+) -> usize
+    requires { ⌜ (length (now classes) ≡ length (now row)) × (length (now clients) ≡ length (now row)) × (length (now row) ≤ length (now list)) × (length (now row) ≤ 512) ⌝ }
+    ensures { λ r. ⌜ (take r (now (list .exit)) ≡ those (fitsAt Sort.AtStake (now (row .entry)) (now (classes .entry)) (now (clients .entry)) o) (length (now (row .entry)))) × (r ≤ length (now (row .entry))) ⌝ }
+{
+    let mut n: usize = 0;
+    let mut f = 0;
+    while f < row.len() {
+        let stake = rules::at_stake(row[f], register::labelled(classes[f], clients[f]), o);
+        list[n] = f as u16;
+        n += one_if(stake);
+        f += 1;
+    }
+    n
+}
+
+// Changes a row as a grant does. What the walk has passed is changed, the rest is as it was.
+pub(crate) fn grant(
+    row: &mut [u8],
+    classes: &[u16],
+    clients: &[u16],
+    o: Label,
+    folder: usize,
+    kind: u16,
+)
+    requires { ⌜ (length (now classes) ≡ length (now row)) × (length (now clients) ≡ length (now row)) ⌝ }
+    ensures { λ r. ⌜ now (row .exit) ≡ each (leftAt (now (classes .entry)) (now (clients .entry)) o folder kind) (now (row .entry)) ⌝ }
+{
+    let mut f = 0;
+    while f < row.len() {
+        row[f] = rules::cell_left(
+            row[f],
+            register::labelled(classes[f], clients[f]),
+            o,
+            f == folder,
+            kind,
+        );
+        f += 1;
+    }
+}
+
+// Lists the folders that lose their write right on a grant, rising, and says how many.
+pub(crate) fn list_lost(
+    row: &[u8],
+    classes: &[u16],
+    clients: &[u16],
+    o: Label,
+    kind: u16,
+    list: &mut [u16],
+) -> usize
+    requires { ⌜ (length (now classes) ≡ length (now row)) × (length (now clients) ≡ length (now row)) × (length (now row) ≤ length (now list)) × (length (now row) ≤ 512) ⌝ }
+    ensures { λ r. ⌜ (take r (now (list .exit)) ≡ lostAt (now (row .entry)) (now (classes .entry)) (now (clients .entry)) o kind) × (r ≤ length (now (row .entry))) ⌝ }
+{
+    if rules::revokes(kind) {
+        return list_stakes(row, classes, clients, o, list);
+    }
+    0
 }

@@ -4,7 +4,7 @@ ghost use Prim.Native.Nat.{_≤_};
 ghost use mathlib.Core.Path.{_≡_};
 ghost use mathlib.Core.Bool.{not, _&&_, _||_};
 ghost use lib.Dec.{eqb, leb};
-ghost use Rattle.monitor.specs.Rules.{canRead, canWrite, reads, writes, revokes, cellFor};
+ghost use Rattle.policy.specs.Rules.{canRead, canWrite, reads, writes, revokes, cellFor};
 ghost use Rattle.monitor.specs.Stages.{fits, cellLeft};
 
 // What a walk over a row looks for.
@@ -14,18 +14,6 @@ pub(crate) enum Sort {
     Rival,
     Foreign,
     AtStake,
-}
-
-pub(crate) fn can_read(cell: u8) -> bool
-    ensures { λ r. ⌜ r ≡ canRead cell ⌝ }
-{
-    cell % 2 == 1
-}
-
-pub(crate) fn can_write(cell: u8) -> bool
-    ensures { λ r. ⌜ r ≡ canWrite cell ⌝ }
-{
-    2 <= cell
 }
 
 pub(crate) fn reads(kind: u16) -> bool
@@ -50,21 +38,21 @@ pub(crate) fn revokes(kind: u16) -> bool
 fn is_rival(cell: u8, f: Label, o: Label) -> bool
     ensures { λ r. ⌜ r ≡ fits Sort.Rival cell f o ⌝ }
 {
-    can_read(cell) & (f.class.0 == o.class.0) & (f.client.0 != o.client.0)
+    (cell % 2 == 1) & (f.class.0 == o.class.0) & (f.client.0 != o.client.0)
 }
 
 // Foreign: readable, not sanitised, of another client.
 fn is_foreign(cell: u8, f: Label, o: Label) -> bool
     ensures { λ r. ⌜ r ≡ fits Sort.Foreign cell f o ⌝ }
 {
-    can_read(cell) & (f.client.0 != 0) & (f.client.0 != o.client.0)
+    (cell % 2 == 1) & (f.client.0 != 0) & (f.client.0 != o.client.0)
 }
 
 // At stake: writable, of another client; none if o is sanitised.
 pub(crate) fn at_stake(cell: u8, f: Label, o: Label) -> bool
     ensures { λ r. ⌜ r ≡ fits Sort.AtStake cell f o ⌝ }
 {
-    can_write(cell) & (f.client.0 != o.client.0) & (o.client.0 != 0)
+    (2 <= cell) & (f.client.0 != o.client.0) & (o.client.0 != 0)
 }
 
 // Whether a folder with this cell and label is of the sort looked for, where the folder asked for has the label o.
@@ -93,6 +81,9 @@ fn cell_for(read: bool, write: bool) -> u8
 pub(crate) fn cell_left(cell: u8, f: Label, o: Label, asked: bool, kind: u16) -> u8
     ensures { λ r. ⌜ r ≡ cellLeft cell f o asked kind ⌝ }
 {
-    let kept = can_write(cell) & !(revokes(kind) & at_stake(cell, f, o));
-    cell_for(can_read(cell) | (asked & reads(kind)), kept | (asked & writes(kind)))
+    let kept = (2 <= cell) & !(revokes(kind) & at_stake(cell, f, o));
+    cell_for(
+        (cell % 2 == 1) | (asked & reads(kind)),
+        kept | (asked & writes(kind)),
+    )
 }

@@ -29,9 +29,9 @@ inRange-folders r e =
       eqb-true f (length (r .clients)) (and-right (leb 1 p && leb p 128 && leb 1 f && leb f 512) alike e),
     )
 
--- The first folder that refusal 2 would carry, or F.
-abbrev pub firstLone : Register → ℕ
-firstLone r = getD (those (loneZero r) (folders r)) 0 (folders r)
+-- The folders that refusal 2 names.
+abbrev pub lone : Register → List ℕ
+lone r = those (loneZero r) (folders r)
 
 -- The first folder that refusal 3 would carry, or F.
 abbrev pub firstLater : Register → ℕ
@@ -42,22 +42,20 @@ module _ (r : Register) where
   unfolding registerAnswer registerChecks judge
   answer-range out = rw out
 
-  pub answer-lone : inRange r ≡ true → firstLone r < folders r → registerAnswer r ≡ answer 2 (firstLone r ∷ [])
+  pub answer-lone : inRange r ≡ true → some (lone r) ≡ true → registerAnswer r ≡ answer 2 (getD (lone r) 0 (folders r) ∷ [])
   unfolding registerAnswer registerChecks judge
-  answer-lone fits lone =
-      let found : (some (those (loneZero r) (folders r)) ≡ true) × (smallest (those (loneZero r) (folders r)) ≡ firstLone r) = first-some _ _ _ lone in
-      rw (fits, found .0, found .1)
+  answer-lone fits found = rw (fits, found, first-smallest (loneZero r) (folders r) (folders r) found)
 
   pub answer-later :
-      inRange r ≡ true → folders r ≤ firstLone r → firstLater r < folders r →
+      inRange r ≡ true → some (lone r) ≡ false → firstLater r < folders r →
       registerAnswer r ≡ answer 3 (firstLater r ∷ getD (earlier r (firstLater r)) 0 (firstLater r) ∷ [])
   unfolding registerAnswer registerChecks judge later earlier
   answer-later fits none found =
-      rw (fits, first-none _ _ none, first-some _ _ _ found .0, first-some _ _ _ found .1, first-smallest (differs r (firstLater r)) (firstLater r) (firstLater r) (differs-earlier found))
+      rw (fits, none, first-some _ _ _ found .0, first-some _ _ _ found .1, first-smallest (differs r (firstLater r)) (firstLater r) (firstLater r) (differs-earlier found))
     where
       differs-earlier : firstLater r < folders r → some (those (differs r (firstLater r)) (firstLater r)) ≡ true
       differs-earlier found = rw (first-some _ _ _ found .1) at (smallest-holds _ _ (first-some _ _ _ found .0) .1)
 
-  pub answer-accepted : inRange r ≡ true → folders r ≤ firstLone r → folders r ≤ firstLater r → registerAnswer r ≡ answer 0 []
+  pub answer-accepted : inRange r ≡ true → some (lone r) ≡ false → folders r ≤ firstLater r → registerAnswer r ≡ answer 0 []
   unfolding registerAnswer registerChecks judge later
-  answer-accepted fits none never = rw (fits, first-none _ _ none, first-none _ _ never)
+  answer-accepted fits none never = rw (fits, none, first-none _ _ never)

@@ -1,1 +1,3 @@
 pub mod Answers
+pub mod Chains
+pub mod Later

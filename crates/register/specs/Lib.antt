@@ -1,3 +1,4 @@
 pub mod Register
 pub mod Label
+pub mod Chains
 pub mod Verdict

@@ -1,15 +1,18 @@
 // The register check (document 01, 'The register').
+mod scan;
+mod table;
+
+use crate::scan::any_lone_zero;
+use crate::scan::first_earlier;
+use crate::scan::first_lone_zero;
+use crate::table::first_later;
 use ids::ClassNo;
 use ids::ClientNo;
 use ids::FolderNo;
-ghost use Prim.Native.Nat.{_<_, _≤_};
+ghost use Prim.Native.Nat.{_≤_};
 ghost use mathlib.Core.Path.{_≡_};
-ghost use mathlib.Core.Bool.{not, _&&_};
-ghost use lib.Dec.{eqb, leb};
-ghost use lib.ListN.{length, getD};
-ghost use Rattle.vocabulary.specs.Those.{those, some};
 ghost use Rattle.register.specs.Label.{labelOf};
-ghost use Rattle.register.specs.Register.{registerOf, exactlyOne, loneZero, differs, inRange, later, registerAnswer};
+ghost use Rattle.register.specs.Register.{registerOf, inRange, registerAnswer};
 ghost use Rattle.register.specs.Verdict.{verdictAnswer};
 
 // The register check's answer.
@@ -40,28 +43,6 @@ pub fn labelled(class: u16, client: u16) -> Label
     }
 }
 
-// Whether exactly one of class and client is 0.
-fn lone_zero(l: Label) -> bool
-    ensures { λ r. ⌜ r ≡ exactlyOne (eqb (l .class .0) 0) (eqb (l .client .0) 0) ⌝ }
-{
-    (l.class.0 == 0) != (l.client.0 == 0)
-}
-
-// Whether two folders of one client have two classes.
-fn differ(f: Label, g: Label) -> bool
-    ensures { λ r. ⌜ r ≡ eqb (g .client .0) (f .client .0) && not (eqb (g .class .0) (f .class .0)) ⌝ }
-{
-    (g.client.0 == f.client.0) & (g.class.0 != f.class.0)
-}
-
-// A folder's label, from its place in the two lists.
-fn label_at(classes: &[u16], clients: &[u16], f: usize) -> Label
-    requires { ⌜ (f < length (now classes)) × (f < length (now clients)) ⌝ }
-    ensures { λ r. ⌜ r ≡ labelOf (getD (now (classes .entry)) f 0) (getD (now (clients .entry)) f 0) ⌝ }
-{
-    labelled(classes[f], clients[f])
-}
-
 // A folder's number, from its place.
 fn folder(place: usize) -> FolderNo
     requires { ⌜ place ≤ 512 ⌝ }
@@ -81,53 +62,6 @@ fn in_range(logins: usize, classes: &[u16], clients: &[u16]) -> bool
         & (classes.len() == clients.len())
 }
 
-// The first folder with exactly one 0, or F. What the loop has passed has none.
-fn first_lone_zero(classes: &[u16], clients: &[u16]) -> usize
-    requires { ⌜ length (now classes) ≡ length (now clients) ⌝ }
-    ensures { λ r. ⌜ r ≡ getD (those (loneZero (registerOf 0 (now (classes .entry)) (now (clients .entry)))) (length (now (classes .entry)))) 0 (length (now (classes .entry))) ⌝ }
-{
-    let mut f = 0;
-    while f < classes.len() {
-        if lone_zero(label_at(classes, clients, f)) {
-            return f;
-        }
-        f += 1;
-    }
-    f
-}
-
-// The first folder before `f` from which `f` differs in class alone, or `f`.
-fn first_earlier(classes: &[u16], clients: &[u16], f: usize) -> usize
-    requires { ⌜ (f < length (now classes)) × (length (now classes) ≡ length (now clients)) ⌝ }
-    ensures { λ r. ⌜ r ≡ getD (those (differs (registerOf 0 (now (classes .entry)) (now (clients .entry))) f) f) 0 f ⌝ }
-    ensures { λ r. ⌜ r ≤ f ⌝ }
-{
-    let l = label_at(classes, clients, f);
-    let mut g = 0;
-    while g < f {
-        if differ(l, label_at(classes, clients, g)) {
-            return g;
-        }
-        g += 1;
-    }
-    g
-}
-
-// The first folder that differs so from an earlier one, or F.
-fn first_later(classes: &[u16], clients: &[u16]) -> usize
-    requires { ⌜ length (now classes) ≡ length (now clients) ⌝ }
-    ensures { λ r. ⌜ r ≡ getD (later (registerOf 0 (now (classes .entry)) (now (clients .entry)))) 0 (length (now (classes .entry))) ⌝ }
-{
-    let mut f = 0;
-    while f < classes.len() {
-        if first_earlier(classes, clients, f) < f {
-            return f;
-        }
-        f += 1;
-    }
-    f
-}
-
 // The register check: the table's rows 1 to 3.
 pub fn check(logins: usize, classes: &[u16], clients: &[u16]) -> Verdict
     ensures { λ r. ⌜ verdictAnswer r ≡ registerAnswer (registerOf logins (now (classes .entry)) (now (clients .entry))) ⌝ }
@@ -135,9 +69,9 @@ pub fn check(logins: usize, classes: &[u16], clients: &[u16]) -> Verdict
     if !in_range(logins, classes, clients) {
         return Verdict::OutOfRange;
     }
-    let lone = first_lone_zero(classes, clients);
-    if lone < classes.len() {
-        return Verdict::LoneZero(folder(lone));
+    if any_lone_zero(classes, clients) {
+        let f = first_lone_zero(classes, clients);
+        return Verdict::LoneZero(folder(f));
     }
     let f = first_later(classes, clients);
     if f < classes.len() {

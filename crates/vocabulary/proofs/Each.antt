@@ -1,5 +1,5 @@
 -- Laws of a list changed place by place.
-use Prim.Native.Nat.{ℕ, zero, suc, _+_, _<_}
+use Prim.Native.Nat.{ℕ, zero, suc, _+_, _<_, zero-le, suc-le-suc}
 use mathlib.Core.Path.{_≡_, refl, ap}
 use mathlib.Core.List.{List, [], _∷_}
 use native.Mathlib.Nat.{le-of-suc-le-suc, not-suc-le-zero}
@@ -52,3 +52,10 @@ pub upTo-all : (f : ℕ → ℕ → ℕ) (l : List ℕ) → upTo f (length l) l 
 unfolding upTo each
 upTo-all f [] = refl
 upTo-all f (x ∷ l) = ap (λ (t : List ℕ). f 0 x ∷ t) (upTo-all (λ i. f (suc i)) l)
+
+-- Two functions that agree at every place make the same of a list.
+pub each-agree : (f g : ℕ → ℕ → ℕ) (l : List ℕ) → ((i : ℕ) → i < length l → f i (getD l i 0) ≡ g i (getD l i 0)) → each f l ≡ each g l
+unfolding each
+each-agree f g [] h = refl
+each-agree f g (x ∷ l) h =
+    rw (h 0 (suc-le-suc zero-le), each-agree (λ i. f (suc i)) (λ i. g (suc i)) l (λ i k. h (suc i) (suc-le-suc k)))

@@ -5,6 +5,7 @@ use mathlib.Core.Bool.{Bool, true, false, cond, not, _&&_, false≢true}
 use lib.Dec.{eqb}
 use borrow.Author.Tests.{eq-eqb}
 use Rattle.vocabulary.proofs.Bools.{both, not-both}
+use mathlib.Core.Logic.{_⊎_, inl, inr}
 use mathlib.Core.List.{List, [], _∷_, _++_}
 use Rattle.vocabulary.specs.Answer.{Answer, Check, judge}
 
@@ -60,3 +61,15 @@ judge-passed (c ∷ cs) x p = rw (p .0) (judge-passed cs x (p .1))
 pub passed-append : (a b : List Check) → Passed (a ++ b) → Passed a × Passed b
 passed-append [] b p = (tt, p)
 passed-append (c ∷ a) b p = let r = passed-append a b (p .1) in ((p .0, r .0), r .1)
+
+-- A table speaks whatever follows it, or is passed.
+pub judge-either : (cs : List Check) (x y : Answer) → (judge cs x ≡ judge cs y) ⊎ Passed cs
+unfolding judge
+judge-either [] x y = inr tt
+judge-either (c ∷ cs) x y = go (c .fails) refl (judge-either cs x y)
+  where
+    go : (b : Bool) → c .fails ≡ b → (judge cs x ≡ judge cs y) ⊎ Passed cs →
+        (cond (c .fails) (c .refusal) (judge cs x) ≡ cond (c .fails) (c .refusal) (judge cs y)) ⊎ ((c .fails ≡ false) × Passed cs)
+    go true f more = inl (rw f)
+    go false f (inl e) = inl (rw (f, e))
+    go false f (inr p) = inr (f, p)

@@ -5,12 +5,13 @@ use mathlib.Core.Logic.{_⊎_, inl, inr, ⊎-elim}
 use mathlib.Core.Bool.{Bool, true, false, cond, _||_, _&&_, or-false, or-assoc, false≢true}
 use mathlib.Core.List.{List, [], _∷_, _++_, append-nil, append-assoc}
 use native.Mathlib.Numerals.{add-one}
-use native.Mathlib.Nat.{le-of-suc-le-suc, not-suc-le-zero, le-refl}
+use native.Mathlib.Nat.{not-suc-le-zero, add-zero}
+use lib.Seq.{take-suc-set, take-set-le}
 use native.Mathlib.Omega.{arith}
 use native.Mathlib.Decide.{ℕ-discrete, decLt}
 use lib.Dec.{eqb, ltb}
 use borrow.Author.Tests.{eq-eqb, ne-eqb, lt-ltb, le-ltb}
-use lib.ListN.{length, getD, length-append, List·getD-append}
+use lib.ListN.{length, getD, take, set}
 use Rattle.vocabulary.specs.Those.{those, some, smallest, member}
 
 pub those-suc : (p : ℕ → Bool) (i : ℕ) → those p (i + 1) ≡ those p i ++ cond (p i) (i ∷ []) []
@@ -142,3 +143,21 @@ first-smallest p n d = at (those p n)
     at : (l : List ℕ) → some l ≡ true → getD l 0 d ≡ smallest l
     at [] e = absurd (false≢true e)
     at (x ∷ xs) e = refl
+
+-- A walk that lists as it goes: the next number is stored past the list, and counts if it passes the test.
+pub those-list : (p : ℕ → Bool) (list : List ℕ) (n i : ℕ) → n < length list → take n list ≡ those p i →
+    take (n + cond (p i) 1 0) (set list n i) ≡ those p (i + 1)
+those-list p list n i h e = at (p i) refl
+  where
+    at : (b : Bool) → p i ≡ b → take (n + cond (p i) 1 0) (set list n i) ≡ those p (i + 1)
+    at true f = rw (those-take p i f, f, add-one, take-suc-set list n i h, e)
+    at false f = rw (those-skip p i f, f, add-zero, take-set-le n list n i (omega arith)) e
+
+-- Whether a search has found something, one number further.
+pub some-those-suc : (p : ℕ → Bool) (i : ℕ) → some (those p (i + 1)) ≡ (some (those p i) || p i)
+some-those-suc p i = rw those-suc (at (those p i) (p i))
+  where
+    at : (l : List ℕ) (b : Bool) → some (l ++ cond b (i ∷ []) []) ≡ (some l || b)
+    at [] true = refl
+    at [] false = refl
+    at (x ∷ xs) b = refl

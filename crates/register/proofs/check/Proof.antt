@@ -1,20 +1,26 @@
 -- `check` meets its contract: each return is one case of the register's table.
-use Prim.Native.Nat.{_≤_, _-_}
+use Prim.Native.Nat.{_≤_}
+use mathlib.Core.Bool.{true}
 use mathlib.Core.Path.{_≡_, sym, _∙_}
 use native.Mathlib.Omega.{arith}
 use lib.ListN.{length}
 use denote.Ref.{now}
 use borrow.Author.Tests.{not-true, not-false}
 use borrow.Author.Needs.{needs}
-use Rattle.register.specs.Register.{registerOf, earlier, later}
+use Rattle.register.specs.Register.{Register, registerOf, folders, inRange, earlier, later}
 use Rattle.register.proofs.Answers.{inRange-folders, answer-range, answer-lone, answer-later, answer-accepted}
 use Rattle.register.proofs.check.Statement.{statement}
 use Rattle.register.proofs.check.Tie as tie
 
--- Past the first test there are at most 512 folders, each with a class and a client.
-sizes : (c : tie.Else1) → (length (now (c .before .before .before .before .args .classes)) ≤ 512) × (length (now (c .before .before .before .before .args .classes)) ≡ length (now (c .before .before .before .before .args .clients)))
-sizes c =
-    inRange-folders (registerOf (c .before .before .before .before .args .logins) (now (c .before .before .before .before .args .classes)) (now (c .before .before .before .before .args .clients))) (sym (c .before .in-range .ensures) ∙ not-false _ (c .if1 .left))
+abbrev asked : tie.Else1 → Register
+asked c = registerOf (c .before .before .before .before .args .logins) (now (c .before .before .before .before .args .classes)) (now (c .before .before .before .before .args .clients))
+
+-- Past the first test the register is in range.
+fits : (c : tie.Else1) → inRange (asked c) ≡ true
+fits c = sym (c .before .in-range .ensures) ∙ not-false _ (c .if1 .left)
+
+sizes : (c : tie.Else1) → (folders (asked c) ≤ 512) × (folders (asked c) ≡ length (asked c .clients))
+sizes c = inRange-folders (asked c) (fits c)
 
 in-range-requires : tie.Need-in-range-requires
 in-range-requires c κs = search needs
@@ -23,17 +29,21 @@ returns : tie.Need-returns
 returns c =
     sym (answer-range _ (sym (c .before .in-range .ensures) ∙ not-true _ (c .if1 .taken)))
 
+any-lone-zero-requires : tie.Need-any-lone-zero-requires
+any-lone-zero-requires c κs =
+    omega (arith, sizes c)
+
 first-lone-zero-requires : tie.Need-first-lone-zero-requires
 first-lone-zero-requires c κs =
-    omega (arith, sizes c)
+    omega (arith, sizes (c .before .before))
 
 folder-requires : tie.Need-folder-requires
 folder-requires c κs =
-    omega (arith, sizes (c .before .before))
+    omega (arith, sizes (c .before .before .before))
 
 returns-2 : tie.Need-returns-2
 returns-2 c =
-    rw (c .folder .ensures, c .before .before .first-lone-zero .ensures) (sym (answer-lone _ (sym (c .before .before .before .before .in-range .ensures) ∙ not-false _ (c .before .before .before .if1 .left)) (rw (c .before .before .first-lone-zero .ensures) at (c .before .if2 .taken))))
+    rw (c .folder .ensures, c .before .first-lone-zero .ensures .0) (sym (answer-lone _ (fits (c .before .before .before .before)) (sym (c .before .before .before .any-lone-zero .ensures) ∙ c .before .before .if2 .taken)))
 
 first-later-requires : tie.Need-first-later-requires
 first-later-requires c κs =
@@ -54,12 +64,12 @@ folder-requires-3 c κs =
 returns-3 : tie.Need-returns-3
 unfolding later earlier
 returns-3 c =
-    rw (c .folder3 .ensures, c .before .folder2 .ensures, c .before .before .first-earlier .ensures .0, c .before .before .before .before .first-later .ensures) (sym (answer-later _ (sym (c .before .before .before .before .before .before .before .before .in-range .ensures) ∙ not-false _ (c .before .before .before .before .before .before .before .if1 .left)) (rw (c .before .before .before .before .before .before .first-lone-zero .ensures) at (c .before .before .before .before .before .if2 .left)) (rw (c .before .before .before .before .first-later .ensures) at (c .before .before .before .if3 .taken))))
+    rw (c .folder3 .ensures, c .before .folder2 .ensures, c .before .before .first-earlier .ensures .0, c .before .before .before .before .first-later .ensures) (sym (answer-later _ (fits (c .before .before .before .before .before .before .before)) (sym (c .before .before .before .before .before .before .any-lone-zero .ensures) ∙ c .before .before .before .before .before .if2 .left) (rw (c .before .before .before .before .first-later .ensures) at (c .before .before .before .if3 .taken))))
 
 returns-4 : tie.Need-returns-4
 unfolding later earlier
 returns-4 c =
-    sym (answer-accepted _ (sym (c .before .before .before .before .before .in-range .ensures) ∙ not-false _ (c .before .before .before .before .if1 .left)) (rw (c .before .before .before .first-lone-zero .ensures) at (c .before .before .if2 .left)) (rw (c .before .first-later .ensures) at (c .if3 .left)))
+    sym (answer-accepted _ (fits (c .before .before .before .before)) (sym (c .before .before .before .any-lone-zero .ensures) ∙ c .before .before .if2 .left) (rw (c .before .first-later .ensures) at (c .if3 .left)))
 
 pub check-spec : {M : Type 1} → statement M
 check-spec =
@@ -67,6 +77,7 @@ check-spec =
     (tie.spec
     in-range-requires
     returns
+    any-lone-zero-requires
     first-lone-zero-requires
     folder-requires
     returns-2

@@ -1,3 +1,10 @@
+use Rattle.monitor.specs.Stages.{fitsAt}
+use Rattle.vocabulary.specs.Those.{those}
+use Rattle.vocabulary.proofs.Those.{first-end, those-none, first-found}
+use lib.ListN.{length}
+use mathlib.Core.Path.{_≡_, refl, sym, _∙_}
+use mathlib.Core.List.{[]}
+use Prim.Native.Nat.{_≤_, _-_}
 use native.Mathlib.Omega.{arith}
 use borrow.Author.Needs.{needs}
 use Rattle.monitor.proofs.row.find.Statement.{statement}
@@ -8,14 +15,17 @@ use Rattle.monitor.proofs.rules.fits.Reads as fits-reads
 use Rattle.register.proofs.labelled.Reads as labelled-reads
 
 abbrev Inv-loop : tie.InvT-loop
-Inv-loop sort row classes clients o f₀ f = ?
+Inv-loop sort row classes clients o f₀ f =
+    (f ≤ length row) × (those (fitsAt sort row classes clients o) f ≡ [])
 
 abbrev μ-loop : tie.MeasureT-loop
-μ-loop sort row classes clients o f₀ f = ?
+μ-loop sort row classes clients o f₀ f = length row - f
 
 -- src/row.rt:16:5
 loop-holds : tie.Need-loop-holds Inv-loop μ-loop
-loop-holds c = search needs
+unfolding those
+loop-holds c =
+    (omega arith, refl)
 
 -- src/row.rt:17:30
 shared-slice-read-fits : tie.Need-shared-slice-read-fits Inv-loop μ-loop
@@ -47,7 +57,8 @@ fits-requires c κs = search needs
 
 -- src/row.rt:18:13
 returns : tie.Need-returns Inv-loop μ-loop
-returns c = search needs
+returns c =
+    sym (first-found _ _ _ _ (c .before .before .before .before .before .before .before .loop .inv .1) (rw (c .before .before .labelled .ensures) at (sym (c .before .fits2 .ensures) ∙ c .if1 .taken)) (c .before .before .before .before .before .before .loop-test .taken))
 
 -- src/row.rt:20:9
 add-f : tie.Need-add-f Inv-loop μ-loop
@@ -59,11 +70,13 @@ loop-less c = search needs
 
 -- src/row.rt:16:5
 loop-again : tie.Need-loop-again Inv-loop μ-loop
-loop-again c = search needs
+loop-again c =
+    (omega arith, those-none _ _ (c .before .before .before .before .before .before .before .loop .inv .1) (rw (c .before .before .labelled .ensures) at (sym (c .before .fits2 .ensures) ∙ c .if1 .left)))
 
 -- src/row.rt:11:1
 returns-2 : tie.Need-returns-2 Inv-loop μ-loop
-returns-2 c = search needs
+returns-2 c =
+    sym (first-end _ _ _ (c .before .loop .inv .1) (c .before .loop .inv .0) (c .loop-test .left))
 
 pub find-spec : {M : Type 1} → statement M
 find-spec =

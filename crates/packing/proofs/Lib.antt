@@ -1,0 +1,5 @@
+pub mod Searches
+pub mod Tabulates
+pub mod Outcomes
+pub mod Cells
+pub mod RoundTrip

@@ -1,0 +1,61 @@
+-- Laws of tabulated lists: length, elements, filling place by place.
+use Prim.Native.Nat.{ℕ, zero, suc, _+_, _≤_, _<_}
+use mathlib.Core.List.{List, [], append-assoc, append-nil}
+use mathlib.Core.Path.{_≡_, refl, ap, _∙_}
+use native.Mathlib.Numerals.{add-one}
+use native.Mathlib.Nat.{le-of-eq}
+use native.Mathlib.Decide.{le-ind}
+use native.Mathlib.Omega.{arith}
+use lib.ListN.{length, getD, drop, set, length-append, List·getD-append, drop-of-length-le}
+use lib.Seq.{drop-cons, drop-at, set-at, getD-at}
+use Rattle.packing.specs.Tabulate.{tabulate, filled}
+
+pub length-tabulate : (f : ℕ → ℕ) (n : ℕ) → length (tabulate f n) ≡ n
+unfolding tabulate
+length-tabulate f zero = refl
+length-tabulate f (suc n) = rw (length-append, length-tabulate f n, add-one)
+
+pub getD-tabulate : (f : ℕ → ℕ) (n i d : ℕ) → i < n → getD (tabulate f n) i d ≡ f i
+unfolding tabulate
+getD-tabulate f n i d h =
+    le-ind (λ (m : ℕ). getD (tabulate f m) i d ≡ f i) (getD-at (tabulate f i) (f i) [] d i (length-tabulate f i))
+    (λ m k e. List·getD-append (tabulate f m) _ d i (rw (length-tabulate f m) k) ∙ e) n h
+
+module _ (f : ℕ → ℕ) (l : List ℕ) where
+  -- nothing is filled yet
+  pub filled-zero : l ≡ filled f 0 l
+  unfolding tabulate filled
+  filled-zero = refl
+
+  -- one place more
+  pub set-filled : {out : List ℕ} {k n v : ℕ} → out ≡ filled f k l → k ≡ n → v ≡ f n → n < length l → set out n v ≡ filled f (n + 1) l
+  unfolding tabulate filled
+  set-filled {out} {k} {n} {v} done at is h =
+      rw (done, at, is, add-one, drop-cons l n 0, append-assoc) (set-at (tabulate f n) _ _ (f n) n (length-tabulate f n))
+
+  -- four places more
+  pub set-four : {out : List ℕ} {a b c d : ℕ} (n m : ℕ)
+      → out ≡ filled f n l
+      → a ≡ f n
+      → b ≡ f (n + 1)
+      → c ≡ f (n + 2)
+      → d ≡ f (n + 3)
+      → n + 4 ≤ length l
+      → n + 4 ≡ m
+      → set (set (set (set out n a) (n + 1) b) (n + 2) c) (n + 3) d ≡ filled f m l
+  set-four n m done ia ib ic id h at =
+      let e₁ = set-filled done refl ia (omega arith) in
+      let e₂ = set-filled e₁ refl ib (omega arith) in
+      let e₃ = set-filled e₂ (omega arith) ic (omega arith) in
+      set-filled e₃ (omega arith) id (omega arith) ∙ ap (λ (k : ℕ). filled f k l) (omega arith)
+
+  -- what is filled stays so
+  pub filled-again : {out : List ℕ} {k n : ℕ} → out ≡ filled f k l → k ≡ n → out ≡ filled f n out
+  unfolding filled
+  filled-again {out} {k} {n} done at =
+      rw done (rw (at, drop-at (tabulate f n) (drop n l) n (length-tabulate f n)))
+
+  -- every place is filled
+  pub filled-length : {out : List ℕ} {k n : ℕ} → out ≡ filled f k l → k ≡ n → length l ≡ n → out ≡ tabulate f n
+  unfolding filled
+  filled-length done at all = rw (done, at, drop-of-length-le l (le-of-eq all), append-nil)

@@ -1,0 +1,48 @@
+-- `pack` meets its contract: each return is one law of the outcome.
+use Rattle.packing.proofs.Outcomes.{all-cells, pack-unequal, pack-above, pack-packed}
+use Rattle.packing.proofs.Searches.{some-nil}
+use mathlib.Core.Path.{_∙_, sym}
+use borrow.Author.Needs.{needs}
+use Rattle.packing.proofs.pack.Statement.{statement}
+use Rattle.packing.proofs.pack.Tie as tie
+
+bytes-for-requires : tie.Need-bytes-for-requires
+bytes-for-requires c κs = search needs
+
+returns : tie.Need-returns
+returns c =
+    pack-unequal _ _ (search needs)
+
+any-above-requires : tie.Need-any-above-requires
+any-above-requires c κs = search needs
+
+first-above-requires : tie.Need-first-above-requires
+first-above-requires c κs = search needs
+
+returns-2 : tie.Need-returns-2
+returns-2 c =
+    pack-above _ _ (search needs) _ (sym (c .before .before .any-above .ensures) ∙ c .before .if2 .taken) (c .first-above .ensures)
+
+write-bytes-requires : tie.Need-write-bytes-requires
+write-bytes-requires c κs =
+    (search needs, all-cells _ (some-nil _ (sym (c .before .before .any-above .ensures) ∙ c .before .if2 .left)))
+
+same-length : tie.Need-same-length
+same-length c = search needs
+
+returns-3 : tie.Need-returns-3
+returns-3 c =
+    pack-packed _ _ (search needs) _ (some-nil _ (sym (c .before .before .before .before .before .any-above .ensures) ∙ c .before .before .before .before .if2 .left)) (c .before .before .write-bytes .ensures)
+
+pub pack-spec : {M : Type 1} → statement M
+pack-spec =
+    tie.close
+    (tie.spec
+    bytes-for-requires
+    returns
+    any-above-requires
+    first-above-requires
+    returns-2
+    write-bytes-requires
+    same-length
+    returns-3)

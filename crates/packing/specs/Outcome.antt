@@ -1,0 +1,56 @@
+-- What packing and unpacking answer and leave (document 01, 'The matrix').
+use Prim.Native.Nat.{ℕ}
+use mathlib.Core.Bool.{Bool, cond, not}
+use mathlib.Core.List.{List, [], _∷_}
+use lib.Dec.{eqb, ltb}
+use lib.ListN.{length, getD}
+use Rattle.vocabulary.specs.Answer.{Answer, answer, check, judge}
+use Rattle.vocabulary.specs.Those.{those, some, smallest}
+use Rattle.packing.specs.Packed.{quarter, packed, unpacked, unused}
+
+-- The answer, and the lent buffer afterwards.
+pub record Outcome : Type 0 where
+  pub told : Answer
+  pub left : List ℕ
+
+abbrev pub outcome : Answer → List ℕ → Outcome
+outcome a l =
+    record {
+      told = a;
+      left = l;
+    }
+
+-- An answer 0 leaves the result; a refusal changes nothing.
+abbrev pub leaves : Answer → List ℕ → List ℕ → Outcome
+leaves a result buffer = outcome a (cond (eqb (a .number) 0) result buffer)
+
+-- '61 for lengths that don't match.'
+abbrev pub unequal : ℕ → ℕ → Bool
+unequal bytes cells = not (eqb bytes (quarter cells))
+
+-- Whether the cell at a place is above 3, and the places of all such cells.
+abbrev pub above : List ℕ → ℕ → Bool
+above cells i = ltb 3 (getD cells i 0)
+
+unfoldable pub aboves : List ℕ → List ℕ
+aboves cells = those (above cells) (length cells)
+
+-- Packing: '61 .., then 60 for the first cell above 3, with its place'.
+abbrev pub packAnswer : List ℕ → List ℕ → Answer
+packAnswer cells buffer =
+    judge
+    (check (unequal (length buffer) (length cells)) 61 [] ∷ check (some (aboves cells)) 60 (smallest (aboves cells) ∷ []) ∷ [])
+    (answer 0 [])
+
+unfoldable pub packs : List ℕ → List ℕ → Outcome
+packs cells buffer = leaves (packAnswer cells buffer) (packed cells) buffer
+
+-- Unpacking: '61 .., then 62 for unused bits set'.
+abbrev pub unpackAnswer : List ℕ → List ℕ → Answer
+unpackAnswer bytes buffer =
+    judge
+    (check (unequal (length bytes) (length buffer)) 61 [] ∷ check (not (eqb (unused (length buffer) bytes) 0)) 62 [] ∷ [])
+    (answer 0 [])
+
+unfoldable pub unpacks : List ℕ → List ℕ → Outcome
+unpacks bytes buffer = leaves (unpackAnswer bytes buffer) (unpacked (length buffer) bytes) buffer

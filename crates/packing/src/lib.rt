@@ -1,0 +1,194 @@
+// Cells packed four to a byte, and back (document 01, 'The matrix').
+ghost use mathlib.Core.Path.{_≡_};
+ghost use Prim.Native.Nat.{_+_, _*_, _≤_, _<_};
+ghost use lib.ListN.{length, getD};
+ghost use Rattle.packing.specs.Packed.{AllCells, quarter, byteOf, byteAt, packed, from, cellAt, unpacked, unused};
+ghost use Rattle.vocabulary.specs.Those.{some, smallest};
+ghost use Rattle.packing.specs.Tabulate.{filled};
+ghost use Rattle.packing.specs.Outcome.{outcome, aboves, packs, unpacks};
+ghost use Rattle.packing.specs.Answers.{packing, unpacking};
+
+// The answers of packing: 0; 60 with the place of the first cell above 3; 61, the lengths don't match.
+pub enum Packing {
+    Packed,
+    CellAbove(usize),
+    Unequal,
+}
+
+// The answers of unpacking: 0; 62, unused bits of the last byte are set; 61, the lengths don't match.
+pub enum Unpacking {
+    Unpacked,
+    UnusedSet,
+    Unequal,
+}
+
+// The bytes that a number of cells takes: a quarter of it, rounded up.
+fn bytes_for(cells: usize) -> usize
+    ensures { λ r. ⌜ r ≡ quarter cells ⌝ }
+{
+    cells / 4 + (cells % 4 + 3) / 4
+}
+
+// Whether a cell is above 3. It goes through all cells: with no early end, many are judged by one instruction.
+// Invariant: `any` says whether one before i is.
+fn any_above(cells: &[u8]) -> bool
+    ensures { λ r. ⌜ r ≡ some (aboves (now (cells .entry))) ⌝ }
+{
+    let mut any = false;
+    let mut i = 0;
+    while i < cells.len() {
+        any = any | (cells[i] > 3);
+        i += 1;
+    }
+    any
+}
+
+// The place of the first cell above 3; 0 where there is none.
+// Invariant: no cell before i is above 3.
+fn first_above(cells: &[u8]) -> usize
+    ensures { λ r. ⌜ r ≡ smallest (aboves (now (cells .entry))) ⌝ }
+{
+    let mut i = 0;
+    while i < cells.len() {
+        if cells[i] > 3 {
+            return i;
+        }
+        i += 1;
+    }
+    0
+}
+
+// Four cells in a byte, the first in the lowest two bits.
+fn byte_of(a: u8, b: u8, c: u8, d: u8) -> u8
+    requires { ⌜ (a ≤ 3) × (b ≤ 3) × (c ≤ 3) × (d ≤ 3) ⌝ }
+    ensures { λ r. ⌜ r ≡ byteOf a b c d ⌝ }
+{
+    a + 4 * b + 16 * c + 64 * d
+}
+
+// What stands at a place; 0 past the end.
+fn at_or_0(bytes: &[u8], i: usize) -> u8
+    ensures { λ r. ⌜ r ≡ getD (now (bytes .entry)) i 0 ⌝ }
+{
+    if i < bytes.len() {
+        return bytes[i];
+    }
+    0
+}
+
+// Byte k of the packed form, of four cells that are there.
+fn whole_byte(cells: &[u8], k: usize) -> u8
+    requires { ⌜ (4 * k + 3 < length (now cells)) × AllCells (now cells) ⌝ }
+    ensures { λ r. ⌜ r ≡ byteAt (now (cells .entry)) k ⌝ }
+{
+    let i = 4 * k;
+    byte_of(cells[i], cells[i + 1], cells[i + 2], cells[i + 3])
+}
+
+// Byte k of the packed form, where cells may be lacking.
+fn last_byte(cells: &[u8], k: usize) -> u8
+    requires { ⌜ (4 * k < length (now cells)) × AllCells (now cells) ⌝ }
+    ensures { λ r. ⌜ r ≡ byteAt (now (cells .entry)) k ⌝ }
+{
+    let i = 4 * k;
+    byte_of(
+        cells[i],
+        at_or_0(cells, i + 1),
+        at_or_0(cells, i + 2),
+        at_or_0(cells, i + 3),
+    )
+}
+
+// Writes the packed form: the bytes of four cells each, then a last one if cells are left.
+// Invariant: the first k bytes are written.
+fn write_bytes(cells: &[u8], bytes: &mut [u8])
+    requires { ⌜ (length (now bytes) ≡ quarter (length (now cells))) × AllCells (now cells) ⌝ }
+    ensures { λ r. ⌜ now (bytes .exit) ≡ packed (now (cells .entry)) ⌝ }
+{
+    let whole = cells.len() / 4;
+    let mut k = 0;
+    while k < whole {
+        bytes[k] = whole_byte(cells, k);
+        k += 1;
+    }
+    if whole == bytes.len() {
+        return;
+    }
+    bytes[whole] = last_byte(cells, whole);
+}
+
+// Packs `cells` into `packed`; a refusal leaves `packed` as it was.
+pub fn pack(cells: &[u8], packed: &mut [u8]) -> Packing
+    ensures { λ r. ⌜ outcome (packing r) (now (packed .exit)) ≡ packs (now (cells .entry)) (now (packed .entry)) ⌝ }
+{
+    if packed.len() != bytes_for(cells.len()) {
+        return Packing::Unequal;
+    }
+    if any_above(cells) {
+        return Packing::CellAbove(first_above(cells));
+    }
+    write_bytes(cells, packed);
+    Packing::Packed
+}
+
+// What a byte has from its cell j on, j from 0 to 3.
+fn from_cell(byte: u8, j: usize) -> u8
+    requires { ⌜ j < 4 ⌝ }
+    ensures { λ r. ⌜ r ≡ from byte j ⌝ }
+{
+    byte >> (2 * j)
+}
+
+// The unused bits of the last byte of `count` cells; 0 where it has none.
+fn unused_bits(bytes: &[u8], count: usize) -> u8
+    ensures { λ r. ⌜ r ≡ unused count (now (bytes .entry)) ⌝ }
+{
+    from_cell(at_or_0(bytes, count / 4), count % 4)
+}
+
+// Writes the cells from place `start` on, one by one.
+// Invariant: the first i cells are written.
+fn write_rest(bytes: &[u8], cells: &mut [u8], start: usize)
+    requires { ⌜ (length (now bytes) ≡ quarter (length (now cells))) × (start ≤ length (now cells)) × (now cells ≡ filled (cellAt (now bytes)) start (now cells)) ⌝ }
+    ensures { λ r. ⌜ now (cells .exit) ≡ unpacked (length (now (cells .entry))) (now (bytes .entry)) ⌝ }
+{
+    let mut i = start;
+    while i < cells.len() {
+        cells[i] = from_cell(bytes[i / 4], i % 4) % 4;
+        i += 1;
+    }
+}
+
+// Writes the cells: four from each byte, then those of a byte that has fewer.
+// Invariant: the cells of the first k bytes are written.
+fn write_cells(bytes: &[u8], cells: &mut [u8])
+    requires { ⌜ length (now bytes) ≡ quarter (length (now cells)) ⌝ }
+    ensures { λ r. ⌜ now (cells .exit) ≡ unpacked (length (now (cells .entry))) (now (bytes .entry)) ⌝ }
+{
+    let whole = cells.len() / 4;
+    let mut k = 0;
+    while k < whole {
+        let byte = bytes[k];
+        let i = 4 * k;
+        cells[i] = byte % 4;
+        cells[i + 1] = byte / 4 % 4;
+        cells[i + 2] = byte / 16 % 4;
+        cells[i + 3] = byte / 64 % 4;
+        k += 1;
+    }
+    write_rest(bytes, cells, 4 * whole);
+}
+
+// Unpacks `packed` into `cells`; a refusal leaves `cells` as they were.
+pub fn unpack(packed: &[u8], cells: &mut [u8]) -> Unpacking
+    ensures { λ r. ⌜ outcome (unpacking r) (now (cells .exit)) ≡ unpacks (now (packed .entry)) (now (cells .entry)) ⌝ }
+{
+    if bytes_for(cells.len()) != packed.len() {
+        return Unpacking::Unequal;
+    }
+    if unused_bits(packed, cells.len()) != 0 {
+        return Unpacking::UnusedSet;
+    }
+    write_cells(packed, cells);
+    Unpacking::Unpacked
+}

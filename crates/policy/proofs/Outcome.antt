@@ -1,0 +1,86 @@
+-- Laws of the outcome: what an answer of 0, 20, 21 or 22 tells, and what any other leaves.
+use Prim.Native.Nat.{ℕ, _-_}
+use mathlib.Core.Path.{_≡_, refl, sym, ap, _∙_}
+use mathlib.Core.Logic.{_⊎_, inl, inr, ⊎-elim}
+use mathlib.Core.Bool.{Bool, true, false, not, cond, _&&_, _||_}
+use mathlib.Core.List.{List, [], _∷_, _++_}
+use lib.ListN.{length}
+use lib.Dec.{eqb, ltb}
+use borrow.Author.Tests.{eqb-true}
+use Rattle.vocabulary.specs.Answer.{Answer, Check, answer, judge}
+use Rattle.vocabulary.proofs.Judge.{Passed, noneSays, judge-silent}
+use Rattle.vocabulary.proofs.Bools.{either, not-both, true-or-false}
+use Rattle.audit_log.specs.Record.{recordBytes}
+use Rattle.register.specs.Register.{Register, registerChecks}
+use Rattle.policy.specs.Rules.{rowOf}
+use Rattle.policy.specs.Outcome.{Request, Log, Outcome, requestChecks, wallAnswer, decision, isLogged, recordOf, unchanged, matrixAfter, logged, outcome}
+
+-- An answer that is to be logged is none of a table's whose checks have other numbers.
+pub logged-silent : (table : List Check) (x : Answer) →
+    noneSays 0 table ≡ true → noneSays 20 table ≡ true → noneSays 21 table ≡ true → noneSays 22 table ≡ true →
+    isLogged (judge table x) ≡ true → Passed table × (judge table x ≡ x)
+logged-silent table x a b c d e =
+    ⊎-elim
+    (silent 0 a)
+    (λ f.
+    ⊎-elim
+    (λ g. ⊎-elim (silent 20 b) (silent 21 c) (either (eqb n 20) (eqb n 21) g))
+    (silent 22 d)
+    (either (eqb n 20 || eqb n 21) (eqb n 22) f))
+    (either (eqb n 0) (eqb n 20 || eqb n 21 || eqb n 22) e)
+  where
+    n : ℕ
+    n = judge table x .number
+
+    silent : (k : ℕ) → noneSays k table ≡ true → eqb n k ≡ true → Passed table × (judge table x ≡ x)
+    silent k none e = judge-silent table x k none (eqb-true n k e)
+
+module _ (r : Register) (m : List ℕ) (q : Request) (log : Log) where
+  -- The row and the wall's answer that a request meets.
+  abbrev pub met : Answer
+  met = wallAnswer r (rowOf r m (q .login)) (q .folder) (q .kind)
+
+  -- A request that was answered by the wall, 0 included.
+  pub record Decided : Type 0 where
+    pub passed : Passed (registerChecks r ++ requestChecks r m q log)
+    pub answered : outcome r m q log .answer ≡ met
+    pub left : outcome r m q log .matrix ≡ matrixAfter r m q met
+
+  decision-logged : isLogged (decision r m q log) ≡ true → Passed (registerChecks r ++ requestChecks r m q log) × (decision r m q log ≡ met)
+  unfolding decision registerChecks requestChecks
+  decision-logged e = logged-silent (registerChecks r ++ requestChecks r m q log) met refl refl refl refl e
+
+  -- Whether the record lacks room.
+  unfoldable pub tooLong : Bool
+  tooLong = ltb (length (log .bytes) - log .end) (length (recordBytes (recordOf q (log .serial) (decision r m q log))))
+
+  pub outcome-unlogged : isLogged (decision r m q log) ≡ false → outcome r m q log ≡ unchanged (decision r m q log) m log
+  unfolding outcome
+  outcome-unlogged f = rw f
+
+  pub outcome-long : isLogged (decision r m q log) ≡ true → tooLong ≡ true → outcome r m q log ≡ unchanged (answer 30 []) m log
+  unfolding outcome logged tooLong
+  outcome-long f g = rw (f, g)
+
+  outcome-kept : isLogged (decision r m q log) ≡ true → tooLong ≡ false →
+      (outcome r m q log .answer ≡ decision r m q log) × (outcome r m q log .matrix ≡ matrixAfter r m q (decision r m q log))
+  unfolding outcome logged tooLong
+  outcome-kept f g = (rw (f, g), rw (f, g))
+
+  -- What a request leaves: it was answered by the wall, or its answer is another and the matrix stays.
+  pub outcome-cases : Decided ⊎ ((isLogged (outcome r m q log .answer) ≡ false) × (outcome r m q log .matrix ≡ m))
+  outcome-cases = by-log (true-or-false (isLogged (decision r m q log))) (true-or-false tooLong)
+    where
+      by-log : (isLogged (decision r m q log) ≡ true) ⊎ (isLogged (decision r m q log) ≡ false) → (tooLong ≡ true) ⊎ (tooLong ≡ false) →
+          Decided ⊎ ((isLogged (outcome r m q log .answer) ≡ false) × (outcome r m q log .matrix ≡ m))
+      by-log (inr f) g = inr (rw (outcome-unlogged f) f, rw (outcome-unlogged f))
+      by-log (inl f) (inl g) = inr (rw (outcome-long f g), rw (outcome-long f g))
+      by-log (inl f) (inr g) =
+          let d = decision-logged f in
+          let k = outcome-kept f g in
+          inl
+          (record {
+            passed = d .0;
+            answered = k .0 ∙ d .1;
+            left = k .1 ∙ ap (matrixAfter r m q) (d .1);
+          })

@@ -1,0 +1,141 @@
+-- The wall over a bare notion of conflict between clients, and who holds what (document 01, 'Who holds what').
+use Prim.Native.Nat.{ℕ, _<_}
+use mathlib.Core.Path.{_≡_}
+use mathlib.Core.Logic.{_⊎_}
+use mathlib.Core.Bool.{Bool, true, false, _&&_, _||_, not}
+use mathlib.Core.List.{List}
+use lib.Dec.{eqb}
+use Rattle.vocabulary.specs.Those.{member}
+use Rattle.register.specs.Register.{Register, folders, classOf, clientOf}
+use Rattle.policy.specs.Rules.{reads, writes}
+
+-- A wall: each folder's client, 0 for a sanitised folder, and which clients are in conflict.
+pub record Wall : Type 1 where
+  pub own : ℕ → ℕ
+  pub conflict : ℕ → ℕ → Type 0
+
+-- Client c is folder f's own; 'a sanitised folder has none of its own'.
+abbrev pub Own : Wall → ℕ → ℕ → Type 0
+Own w f c = (c ≡ w .own f) × (c ≡ 0 → ⊥)
+
+-- ---- rights
+
+-- The rights that stand: of each login on each folder.
+pub record Rights : Type 0 where
+  pub read : ℕ → ℕ → Bool
+  pub write : ℕ → ℕ → Bool
+
+abbrev pub noRights : Rights
+noRights =
+    record {
+      read = λ s f. false;
+      write = λ s f. false;
+    }
+
+-- Whether (t, f) is the login and folder (s, o) asked for.
+abbrev pub asked : ℕ → ℕ → ℕ → ℕ → Bool
+asked s o t f = eqb t s && eqb f o
+
+-- 'The asked right on o is read for kinds 1 and 2, write for 3, both for 4', joined to the rights that stand.
+abbrev pub joined : Rights → ℕ → ℕ → ℕ → Rights
+joined k s o kind =
+    record {
+      read = λ t f. k .read t f || (asked s o t f && reads kind);
+      write = λ t f. k .write t f || (asked s o t f && writes kind);
+    }
+
+-- 'The read right of s on o stands once a request of s for o, of kind 1, 2 or 4, was granted; the write right stands from a grant
+-- of kind 3 or 4 until a later grant to s lists o as lost': the rights after a grant to s for o that lists these folders as lost.
+abbrev pub afterGrant : Rights → ℕ → ℕ → ℕ → List ℕ → Rights
+afterGrant k s o kind list =
+    record {
+      read = λ t f. k .read t f || (asked s o t f && reads kind);
+      write = λ t f. (k .write t f && not (eqb t s && member f list)) || (asked s o t f && writes kind);
+    }
+
+-- ---- what is held
+
+-- Which clients each login and each folder holds.
+pub record Held : Type 1 where
+  pub login : ℕ → ℕ → Type 0
+  pub folder : ℕ → ℕ → Type 0
+
+-- 'At first a folder holds its own client; a sanitised folder and a login hold none.'
+abbrev pub atFirst : Wall → Held
+atFirst w =
+    record {
+      login = λ s c. ⊥;
+      folder = λ f c. Own w f c;
+    }
+
+-- A use of a right: a reading or a writing of a folder by a login.
+pub data Use : Type 0 where
+  reading : ℕ → ℕ → Use
+  writing : ℕ → ℕ → Use
+
+-- 'A reading of o by s adds all that o holds to s, a writing all that s holds to o; without its right standing it does nothing.'
+unfoldable pub used : Rights → Use → Held → Held
+used k (reading s o) h =
+    record {
+      login = λ t c. h .login t c ⊎ ((t ≡ s) × (k .read s o ≡ true) × h .folder o c);
+      folder = h .folder;
+    }
+used k (writing s o) h =
+    record {
+      login = h .login;
+      folder = λ f c. h .folder f c ⊎ ((f ≡ o) × (k .write s o ≡ true) × h .login s c);
+    }
+
+-- ---- the wall broken
+
+-- A login holds two clients in conflict.
+pub record TwoHeld (w : Wall) (h : Held) : Type 0 where
+  pub login : ℕ
+  pub one : ℕ
+  pub other : ℕ
+  pub holds-one : h .login login one
+  pub holds-other : h .login login other
+  pub in-conflict : w .conflict one other
+
+-- A folder holds a client not its own.
+pub record Strayed (w : Wall) (h : Held) : Type 0 where
+  pub folder : ℕ
+  pub client : ℕ
+  pub holds : h .folder folder client
+  pub not-own : Own w folder client → ⊥
+
+-- 'The wall is broken if a login holds two clients of one class, or a folder a client not its own.'
+abbrev pub Broken : Wall → Held → Type 0
+Broken w h = TwoHeld w h ⊎ Strayed w h
+
+-- 'Some reading by s and then some reading or writing by s, starting from what is held at that moment, break the wall.'
+pub record Breaks (w : Wall) (k : Rights) (h : Held) (s : ℕ) : Type 0 where
+  pub first : ℕ
+  pub second : ℕ
+  pub breaks :
+      Broken w (used k (reading s second) (used k (reading s first) h))
+      ⊎ Broken w (used k (writing s second) (used k (reading s first) h))
+
+-- A refusal to s of folder o is needful.
+abbrev pub Needful : Wall → Rights → Held → ℕ → ℕ → ℕ → Type 0
+Needful w k h s o kind = Breaks w (joined k s o kind) h s
+
+-- ---- the wall by classes
+
+-- Two clients of one class.
+pub record OneClass (r : Register) (c d : ℕ) : Type 0 where
+  pub one : ℕ
+  pub other : ℕ
+  pub one-known : one < folders r
+  pub other-known : other < folders r
+  pub one-client : clientOf r one ≡ c
+  pub other-client : clientOf r other ≡ d
+  pub one-class : classOf r one ≡ classOf r other
+  pub two : c ≡ d → ⊥
+
+abbrev pub classWall : Register → Wall
+classWall r =
+    record {
+      own = clientOf r;
+      conflict = OneClass r;
+    }

@@ -1,0 +1,74 @@
+-- `first_later` meets its contract: no folder that the loop has passed differs from an earlier one, and the table holds them all.
+use Prim.Native.Nat.{_≤_, _-_}
+use mathlib.Core.List.{[]}
+use mathlib.Core.Path.{_≡_, refl, sym, _∙_}
+use native.Mathlib.Omega.{arith}
+use lib.ListN.{length}
+use borrow.Author.Needs.{needs}
+use Rattle.vocabulary.proofs.Those.{those-none, first-found, first-end}
+use Rattle.vocabulary.specs.Those.{those, some}
+use Rattle.register.specs.Chains.{Chained}
+use Rattle.register.specs.Register.{registerOf, earlier, later}
+use Rattle.register.proofs.Later.{later-step}
+use Rattle.register.proofs.Chains.{chained-none, pastLast-le}
+use Rattle.register.proofs.table.first_later.Statement.{statement}
+use Rattle.register.proofs.table.first_later.Tie as tie
+
+abbrev Inv-loop : tie.InvT-loop
+Inv-loop classes clients heads₀ nexts₀ f₀ heads nexts f = (f ≤ length classes) × ((those (λ g. some (earlier (registerOf 0 classes clients) g)) f ≡ []) × Chained clients heads nexts f)
+
+abbrev μ-loop : tie.MeasureT-loop
+μ-loop classes clients heads₀ nexts₀ f₀ heads nexts f = length classes - f
+
+loop-holds : tie.Need-loop-holds Inv-loop μ-loop
+unfolding those
+loop-holds c =
+    (omega arith, (refl, chained-none _))
+
+last-of-client-requires : tie.Need-last-of-client-requires Inv-loop μ-loop
+last-of-client-requires c κs =
+    (omega arith, (omega arith, c .before .before .before .loop .inv .1 .1))
+
+clashes-requires : tie.Need-clashes-requires Inv-loop μ-loop
+clashes-requires c κs =
+    (omega arith, rw (c .last-of-client .ensures) (pastLast-le _ _))
+
+returns : tie.Need-returns Inv-loop μ-loop
+unfolding later
+returns c =
+    sym (first-found _ _ _ _ (c .before .before .before .before .before .before .loop .inv .1 .0) (later-step _ _ (c .before .before .before .before .before .before .loop .inv .1 .0) ∙ rw (c .before .before .last-of-client .ensures) at (sym (c .before .clashes .ensures) ∙ c .if1 .taken)) (c .before .before .before .before .before .loop-test .taken))
+
+enter-requires : tie.Need-enter-requires Inv-loop μ-loop
+enter-requires c κs =
+    (omega arith, (omega arith, c .before .before .before .before .before .before .before .before .loop .inv .1 .1))
+
+add-f : tie.Need-add-f Inv-loop μ-loop
+add-f c = search needs
+
+loop-less : tie.Need-loop-less Inv-loop μ-loop
+loop-less c = search needs
+
+loop-again : tie.Need-loop-again Inv-loop μ-loop
+loop-again c =
+    (omega arith, (those-none _ _ (c .before .before .before .before .before .before .before .before .before .loop .inv .1 .0) (later-step _ _ (c .before .before .before .before .before .before .before .before .before .loop .inv .1 .0) ∙ rw (c .before .before .before .before .before .last-of-client .ensures) at (sym (c .before .before .before .before .clashes .ensures) ∙ c .before .before .before .if1 .left)), c .enter .ensures))
+
+returns-2 : tie.Need-returns-2 Inv-loop μ-loop
+unfolding later
+returns-2 c =
+    sym (first-end _ _ _ (c .before .loop .inv .1 .0) (c .before .loop .inv .0) (c .loop-test .left))
+
+pub first-later-spec : {M : Type 1} → statement M
+first-later-spec =
+    tie.close
+    (tie.spec
+    Inv-loop
+    μ-loop
+    loop-holds
+    last-of-client-requires
+    clashes-requires
+    returns
+    enter-requires
+    add-f
+    loop-less
+    loop-again
+    returns-2)

@@ -1,0 +1,35 @@
+-- Internal: the table by which refusal 3 is sought in one pass. No rule of document 01 stands here.
+use Prim.Native.Nat.{ℕ, zero, suc, _-_, _<_, _%_}
+use mathlib.Core.Path.{_≡_}
+use mathlib.Core.Bool.{Bool, cond, not, _&&_}
+use mathlib.Core.List.{List}
+use lib.ListN.{length, getD}
+use lib.Dec.{eqb, ltb}
+
+-- One more than the last number below n that passes the test, or 0.
+unfoldable pub pastLast : (ℕ → Bool) → ℕ → ℕ
+pastLast p zero = 0
+pastLast p (suc n) = cond (p n) (suc n) (pastLast p n)
+
+-- Folder g is of the client c.
+abbrev pub ofClient : List ℕ → ℕ → ℕ → Bool
+ofClient clients c g = eqb (getD clients g 0) c
+
+-- A client's slot in the table.
+abbrev pub slotOf : ℕ → ℕ
+slotOf c = c % 2048
+
+-- Folder g's client has the slot s.
+abbrev pub inSlot : List ℕ → ℕ → ℕ → Bool
+inSlot clients s g = eqb (slotOf (getD clients g 0)) s
+
+-- The table after the folders below n: for each slot the last folder in it, and for each folder the last one before it in its slot.
+pub record Chained (clients heads nexts : List ℕ) (n : ℕ) : Type 0 where
+  pub slots : length heads ≡ 2048
+  pub places : length nexts ≡ 512
+  pub at-head : (s : ℕ) → s < 2048 → getD heads s 0 ≡ pastLast (inSlot clients s) n
+  pub at-next : (g : ℕ) → g < n → getD nexts g 0 ≡ pastLast (inSlot clients (slotOf (getD clients g 0))) g
+
+-- Folder f has another class than the folder before `past`, if there is one.
+abbrev pub clash : List ℕ → ℕ → ℕ → Bool
+clash classes f past = ltb 0 past && not (eqb (getD classes (past - 1) 0) (getD classes f 0))

@@ -1,0 +1,80 @@
+// Searches through the folders' labels.
+use crate::Label;
+use crate::labelled;
+ghost use Prim.Native.Nat.{_<_, _≤_};
+ghost use mathlib.Core.Path.{_≡_};
+ghost use mathlib.Core.Bool.{not, _&&_};
+ghost use lib.Dec.{eqb};
+ghost use lib.ListN.{length, getD};
+ghost use Rattle.vocabulary.specs.Those.{those, some};
+ghost use Rattle.register.specs.Label.{labelOf};
+ghost use Rattle.register.specs.Register.{registerOf, exactlyOne, loneZero, differs};
+
+// Whether exactly one of class and client is 0.
+fn lone_zero(l: Label) -> bool
+    ensures { λ r. ⌜ r ≡ exactlyOne (eqb (l .class .0) 0) (eqb (l .client .0) 0) ⌝ }
+{
+    (l.class.0 == 0) != (l.client.0 == 0)
+}
+
+// Whether two folders of one client have two classes.
+fn differ(f: Label, g: Label) -> bool
+    ensures { λ r. ⌜ r ≡ eqb (g .client .0) (f .client .0) && not (eqb (g .class .0) (f .class .0)) ⌝ }
+{
+    (g.client.0 == f.client.0) & (g.class.0 != f.class.0)
+}
+
+// A folder's label, from its place in the two lists.
+fn label_at(classes: &[u16], clients: &[u16], f: usize) -> Label
+    requires { ⌜ (f < length (now classes)) × (f < length (now clients)) ⌝ }
+    ensures { λ r. ⌜ r ≡ labelOf (getD (now (classes .entry)) f 0) (getD (now (clients .entry)) f 0) ⌝ }
+{
+    labelled(classes[f], clients[f])
+}
+
+// Whether any folder has exactly one 0. Without a way out of the loop, so that it runs on many folders at once.
+pub(crate) fn any_lone_zero(classes: &[u16], clients: &[u16]) -> bool
+    requires { ⌜ length (now classes) ≡ length (now clients) ⌝ }
+    ensures { λ r. ⌜ r ≡ some (those (loneZero (registerOf 0 (now (classes .entry)) (now (clients .entry)))) (length (now (classes .entry)))) ⌝ }
+{
+    let mut any = false;
+    let mut f = 0;
+    while f < classes.len() {
+        any = any | lone_zero(label_at(classes, clients, f));
+        f += 1;
+    }
+    any
+}
+
+// The first folder with exactly one 0, or F. What the loop has passed has none.
+pub(crate) fn first_lone_zero(classes: &[u16], clients: &[u16]) -> usize
+    requires { ⌜ length (now classes) ≡ length (now clients) ⌝ }
+    ensures { λ r. ⌜ r ≡ getD (those (loneZero (registerOf 0 (now (classes .entry)) (now (clients .entry)))) (length (now (classes .entry)))) 0 (length (now (classes .entry))) ⌝ }
+    ensures { λ r. ⌜ r ≤ length (now (classes .entry)) ⌝ }
+{
+    let mut f = 0;
+    while f < classes.len() {
+        if lone_zero(label_at(classes, clients, f)) {
+            return f;
+        }
+        f += 1;
+    }
+    f
+}
+
+// The first folder before `f` from which `f` differs in class alone, or `f`.
+pub(crate) fn first_earlier(classes: &[u16], clients: &[u16], f: usize) -> usize
+    requires { ⌜ (f < length (now classes)) × (length (now classes) ≡ length (now clients)) ⌝ }
+    ensures { λ r. ⌜ r ≡ getD (those (differs (registerOf 0 (now (classes .entry)) (now (clients .entry))) f) f) 0 f ⌝ }
+    ensures { λ r. ⌜ r ≤ f ⌝ }
+{
+    let l = label_at(classes, clients, f);
+    let mut g = 0;
+    while g < f {
+        if differ(l, label_at(classes, clients, g)) {
+            return g;
+        }
+        g += 1;
+    }
+    g
+}
