@@ -9,7 +9,7 @@ use lib.Seq.{slice}
 use Rattle.varint.specs.Bytes.{Bytes}
 use Rattle.register.specs.Register.{Register, Accepted}
 use Rattle.audit_log.specs.Record.{Record}
-use Rattle.audit_log.specs.Reader.{stepAt}
+use Rattle.audit_log.specs.Reader.{stepAt, placeAfter}
 use Rattle.audit_log.specs.WellFormed.{recordAnswer}
 use Rattle.policy.specs.Outcome.{Request, Log, Outcome, isLogged, recordOf, outcome}
 
@@ -48,6 +48,6 @@ pub record LogExact : Type 0 where
   -- So a step on the log that a request left, at the log's old end, yields its record.
   pub reads-new : (w : Writing) → stepAt (left w .log .bytes) (w .log .end) ≡ recordAnswer (w .log .end) (entry w)
   -- The place after it is the log's new end.
-  pub new-end : (w : Writing) → w .log .end + length (written w) ≡ left w .log .end
+  pub new-end : (w : Writing) → placeAfter (stepAt (left w .log .bytes) (w .log .end)) ≡ left w .log .end
   -- Whatever a step accepts in a list of bytes, some request wrote.
   pub accepts : (log : List ℕ) (place : ℕ) → Bytes log → stepAt log place .number ≡ 0 → (w : Writing) × Yields log place w
