@@ -1,5 +1,5 @@
-// The four kinds of number that look alike on paper (document 01, 'The register'), each a type of its own, so that
-// one given in another's place does not build.
+// Folder, client, class and login numbers look alike on paper (document 01, 'The register' and 'Our forms for each place'): each is
+// a type of its own, so that one given in another's place does not build.
 ghost use mathlib.Core.Path.{_≡_};
 ghost use lib.Dec.{eqb};
 

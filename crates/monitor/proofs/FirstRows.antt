@@ -14,7 +14,7 @@ use Rattle.vocabulary.proofs.Judge.{Passed, judge-append, judge-passed, judge-e
 use Rattle.vocabulary.proofs.Bools.{both, not-both, true-or-false, neither, cond-same}
 use Rattle.audit_log.specs.Record.{recordBytes}
 use Rattle.register.specs.Register.{Register, registerOf, folders, inRange, registerChecks, registerAnswer}
-use Rattle.register.proofs.Answers.{inRange-folders}
+use Rattle.register.proofs.Answers.{Ranged, inRange-ranged}
 use Rattle.policy.specs.Rules.{rowOf, withRow, rowAfter, rivals, foreigners, stakes, lost}
 use Rattle.policy.specs.Outcome.{Request, Log, Outcome, requestChecks, wallChecks, wallAnswer, decision, byWall, isLogged, recordOf, unchanged, matrixAfter, logged, outcome, told}
 use Rattle.monitor.specs.Reply.{replyAnswer}
@@ -28,13 +28,6 @@ pub product-fits : {p f : ℕ} → p ≤ 128 → f ≤ 512 → p * f ≤ 65536
 product-fits {p} {f} a b = le-trans (mul-le-mul-right f a) (mul-le-mul-left 128 b)
 
 -- ---- the register's rows
-
-pub range-logins : (r : Register) → inRange r ≡ true → r .logins ≤ 128
-range-logins r e =
-    let a = both (leb 1 (r .logins) && leb (r .logins) 128 && leb 1 (folders r) && leb (folders r) 512) (eqb (folders r) (length (r .clients))) e in
-    let b = both (leb 1 (r .logins) && leb (r .logins) 128 && leb 1 (folders r)) (leb (folders r) 512) (a .0) in
-    let c = both (leb 1 (r .logins) && leb (r .logins) 128) (leb 1 (folders r)) (b .0) in
-    leb-true (r .logins) 128 (both (leb 1 (r .logins)) (leb (r .logins) 128) (c .0) .1)
 
 module _ (r : Register) (rest : List Check) (x : Answer) where
   pub register-passed : answer 0 [] ≡ registerAnswer r → Passed (registerChecks r)
@@ -82,9 +75,7 @@ module _ (r : Register) (m : List ℕ) (q : Request) (log : Log) where
   -- What a request meets where the first rows are passed.
   pub record Opened : Type 0 where
     pub passed : Passed (registerChecks r ++ frontChecks (r .logins) (folders r) (length m) q)
-    pub folders-few : folders r ≤ 512
-    pub folders-alike : folders r ≡ length (r .clients)
-    pub logins-few : r .logins ≤ 128
+    pub ranged : Ranged r
     pub whole : length m ≡ r .logins * folders r
     pub login-known : q .login < r .logins
     pub folder-known : q .folder < folders r
@@ -103,9 +94,7 @@ module _ (r : Register) (m : List ℕ) (q : Request) (log : Log) where
       let range : inRange r ≡ true = not-false (inRange r) (a .0 .0) in
       record {
         passed = p;
-        folders-few = inRange-folders r range .0;
-        folders-alike = inRange-folders r range .1;
-        logins-few = range-logins r range;
+        ranged = inRange-ranged r range;
         whole = eqb-true (length m) (r .logins * folders r) (not-false (eqb (length m) (r .logins * folders r)) (a .1 .0));
         login-known = leb-false (r .logins) (q .login) (a .1 .1 .0);
         folder-known = leb-false (folders r) (q .folder) (a .1 .1 .1 .0);

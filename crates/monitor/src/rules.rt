@@ -34,25 +34,51 @@ pub(crate) fn revokes(kind: u16) -> bool
     (kind == 1) | (kind == 4)
 }
 
+// Whether two labels have different clients. Classes and clients are compared as what they are, so that neither stands in for the other.
+fn other_client(f: Label, o: Label) -> bool
+    ensures { λ r. ⌜ r ≡ not (eqb (f .client .0) (o .client .0)) ⌝ }
+{
+    let a = f.client;
+    let b = o.client;
+    !ids::same_client(a, b)
+}
+
+// Whether two labels have one class.
+fn one_class(f: Label, o: Label) -> bool
+    ensures { λ r. ⌜ r ≡ eqb (f .class .0) (o .class .0) ⌝ }
+{
+    let a = f.class;
+    let b = o.class;
+    ids::same_class(a, b)
+}
+
+// Whether a label is that of a sanitised folder.
+fn sanitised(l: Label) -> bool
+    ensures { λ r. ⌜ r ≡ eqb (l .client .0) 0 ⌝ }
+{
+    let a = l.client;
+    ids::same_client(a, ids::ClientNo(0))
+}
+
 // Rival: readable, of o's class and of another client.
 fn is_rival(cell: u8, f: Label, o: Label) -> bool
     ensures { λ r. ⌜ r ≡ fits Sort.Rival cell f o ⌝ }
 {
-    (cell % 2 == 1) & (f.class.0 == o.class.0) & (f.client.0 != o.client.0)
+    (cell % 2 == 1) & one_class(f, o) & other_client(f, o)
 }
 
 // Foreign: readable, not sanitised, of another client.
 fn is_foreign(cell: u8, f: Label, o: Label) -> bool
     ensures { λ r. ⌜ r ≡ fits Sort.Foreign cell f o ⌝ }
 {
-    (cell % 2 == 1) & (f.client.0 != 0) & (f.client.0 != o.client.0)
+    (cell % 2 == 1) & !sanitised(f) & other_client(f, o)
 }
 
 // At stake: writable, of another client; none if o is sanitised.
 pub(crate) fn at_stake(cell: u8, f: Label, o: Label) -> bool
     ensures { λ r. ⌜ r ≡ fits Sort.AtStake cell f o ⌝ }
 {
-    (2 <= cell) & (f.client.0 != o.client.0) & (o.client.0 != 0)
+    (2 <= cell) & other_client(f, o) & !sanitised(o)
 }
 
 // Whether a folder with this cell and label is of the sort looked for, where the folder asked for has the label o.

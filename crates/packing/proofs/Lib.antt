@@ -1,4 +1,3 @@
-pub mod Searches
 pub mod Tabulates
 pub mod Outcomes
 pub mod Cells

@@ -11,7 +11,7 @@ use Rattle.vocabulary.specs.Answer.{answer, judge}
 use Rattle.vocabulary.specs.Those.{some, smallest}
 use Rattle.packing.specs.Packed.{AllCells, quarter, packed, unpacked, unused}
 use Rattle.packing.specs.Outcome.{outcome, above, aboves, packs, unpacks}
-use Rattle.packing.proofs.Searches.{those-none, those-all}
+use Rattle.vocabulary.proofs.Those.{those-empty, those-never}
 
 -- where no cell above 3 is found, all are cells
 pub all-cells : (cells : List ℕ) → aboves cells ≡ [] → AllCells cells
@@ -19,13 +19,13 @@ unfolding aboves
 all-cells cells none i = go (decLt i (length cells))
   where
     go : Dec (i < length cells) → getD cells i 0 ≤ 3
-    go (yes h) = ltb-false 3 _ (those-none (above cells) (length cells) none i h)
+    go (yes h) = ltb-false 3 _ (those-empty (above cells) (length cells) none i h)
     go (no g) = rw (List·getD-eq-default cells 0 {n = i} (omega arith)) (omega arith)
 
 -- where all are cells, none above 3 is found
 pub no-aboves : (cells : List ℕ) → AllCells cells → aboves cells ≡ []
 unfolding aboves
-no-aboves cells all = those-all (above cells) (length cells) (λ i. le-ltb 3 (getD cells i 0) (all i))
+no-aboves cells all = those-never (above cells) (length cells) (λ i h. le-ltb 3 (getD cells i 0) (all i))
 
 module _ (cells buffer : List ℕ) where
   pub pack-unequal : (length buffer ≡ quarter (length cells) → ⊥) → outcome (answer 61 []) buffer ≡ packs cells buffer

@@ -11,7 +11,7 @@ use native.Mathlib.Decide.{decLt}
 use native.Mathlib.Omega.{arith}
 use borrow.Author.Tests.{eqb-true, not-false}
 use Rattle.vocabulary.specs.Answer.{answer, check, judge}
-use Rattle.packing.proofs.Searches.{some-nil}
+use Rattle.vocabulary.proofs.Those.{some-none}
 use Rattle.packing.specs.Packed.{AllCells, quarter, byteOf, byteAt, packed, from, cellAt, unpacked, unused}
 use Rattle.packing.specs.Outcome.{aboves, packs, unpacks}
 use Rattle.packing.specs.RoundTrip.{UnpackOfPack, PackOfUnpack}
@@ -161,7 +161,7 @@ pack-accepts : (cells buffer : List ℕ) → packs cells buffer .told .number �
 unfolding packs
 pack-accepts cells buffer ok =
     let p = passes 60 59 _ _ _ _ ok in
-    let none = some-nil (aboves cells) (p .1) in
+    let none = some-none (aboves cells) (p .1) in
     (all-cells cells none, sym (ap (λ x. x .left) (pack-packed cells buffer (eqb-true _ _ (not-false _ (p .0))) (packed cells) none refl)))
 
 pub unpack-of-pack : UnpackOfPack

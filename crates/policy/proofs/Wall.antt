@@ -167,17 +167,20 @@ module _ (w : Wall) (k : Rights) (h : Held) (s : ℕ) (own-held : (f c : ℕ) �
       record {
         first = f;
         second = g;
+        first-right = a;
         breaks =
-            inl
-            (inl
-            (record {
-              login = s;
-              one = w .own f;
-              other = w .own g;
-              holds-one = inl (inr (refl, a, own-held f (w .own f) (refl, y)));
-              holds-other = inr (refl, b, own-held g (w .own g) (refl, z));
-              in-conflict = c;
-            }));
+            inl (
+              b,
+              inl
+                  (record {
+                    login = s;
+                    one = w .own f;
+                    other = w .own g;
+                    holds-one = inl (inr (refl, a, own-held f (w .own f) (refl, y)));
+                    holds-other = inr (refl, b, own-held g (w .own g) (refl, z));
+                    in-conflict = c;
+                  }),
+            );
       }
 
   -- A login that may read a folder of one client and write a folder of another, or a sanitised one, can break the wall.
@@ -187,13 +190,16 @@ module _ (w : Wall) (k : Rights) (h : Held) (s : ℕ) (own-held : (f c : ℕ) �
       record {
         first = f;
         second = g;
+        first-right = a;
         breaks =
-            inr
-            (inr
-            (record {
-              folder = g;
-              client = w .own f;
-              holds = inr (refl, b, inr (refl, a, own-held f (w .own f) (refl, z)));
-              not-own = λ o. d (o .0);
-            }));
+            inr (
+              b,
+              inr
+                  (record {
+                    folder = g;
+                    client = w .own f;
+                    holds = inr (refl, b, inr (refl, a, own-held f (w .own f) (refl, z)));
+                    not-own = λ o. d (o .0);
+                  }),
+            );
       }

@@ -1,12 +1,12 @@
 -- Histories: every list of requests, readings and writings, from a blank matrix (document 01, 'Who holds what').
 use Prim.Native.Nat.{ℕ, _*_}
-use mathlib.Core.Bool.{Bool, cond, _||_}
+use mathlib.Core.Bool.{cond}
 use mathlib.Core.List.{List, [], _∷_}
 use lib.ListN.{replicate}
 use lib.Dec.{eqb}
 use Rattle.vocabulary.specs.Answer.{Answer}
 use Rattle.register.specs.Register.{Register, folders}
-use Rattle.policy.specs.Outcome.{Request, Log, Outcome, outcome}
+use Rattle.policy.specs.Outcome.{Request, Log, outcome}
 use Rattle.policy.specs.Wall.{Rights, noRights, afterGrant, Held, atFirst, Use, used, classWall}
 
 -- A step: a request, with any log handed to it, or a use.

@@ -10,7 +10,7 @@ use Rattle.vocabulary.specs.Those.{those, some, smallest}
 use Rattle.serial.specs.Serial.{following}
 use Rattle.audit_log.specs.Record.{Record, recordBytes}
 use Rattle.register.specs.Register.{Register, folders, registerChecks}
-use Rattle.policy.specs.Rules.{rowOf, withRow, cell, reads, writes, rivals, foreigners, stakes, lost, rowAfter}
+use Rattle.policy.specs.Rules.{rowOf, withRow, cell, writes, rivals, foreigners, stakes, lost, rowAfter}
 
 -- What a login asks for.
 pub record Request : Type 0 where
@@ -132,4 +132,9 @@ abbrev pub toldAnswer : Answer → Answer
 toldAnswer a = cond (eqb (a .number) 0) (answer 0 (length (a .carried) ∷ [])) a
 
 abbrev pub told : Outcome → Outcome
-told x = unchanged (toldAnswer (x .answer)) (x .matrix) (x .log)
+told x =
+    record {
+      answer = toldAnswer (x .answer);
+      matrix = x .matrix;
+      log = x .log;
+    }

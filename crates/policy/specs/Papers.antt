@@ -1,4 +1,5 @@
--- The 1989 paper's theorems 1, 2 and 4 about the histories of demand 3: corollaries, so that a reader of the paper finds them.
+-- The 1989 paper's theorems 1, 2 and 4 about the histories of demand 3: corollaries, so that a reader of the paper finds them. Access is a
+-- read right here: write rights may be gathered over many clients, even of one class, while nothing unsanitised has been read.
 use Prim.Native.Nat.{ℕ}
 use mathlib.Core.Path.{_≡_}
 use mathlib.Core.Bool.{true}

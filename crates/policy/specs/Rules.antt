@@ -60,7 +60,7 @@ abbrev pub atStake : Register → List ℕ → ℕ → ℕ → Bool
 atStake r row o f =
     canWrite (cell row f) && not (eqb (clientOf r f) (clientOf r o)) && not (sanitised r o)
 
--- Each of the three, in all.
+-- All folders of each of the three sorts.
 unfoldable pub rivals : Register → List ℕ → ℕ → List ℕ
 rivals r row o = those (rival r row o) (folders r)
 

@@ -1,10 +1,10 @@
 -- The table L0 to L11 with its 'end' row (document 01, 'The desk program'), as a claim about the definitions.
-use Prim.Native.Nat.{ℕ, _*_, _-_, _+_}
+use Prim.Native.Nat.{ℕ}
 use mathlib.Core.Path.{_≡_}
 use mathlib.Core.Bool.{cond}
 use mathlib.Core.List.{List, [], _∷_}
 use lib.ListN.{replicate, take, drop}
-use Rattle.register.specs.Register.{Register, folders}
+use Rattle.register.specs.Register.{Register}
 use Rattle.policy.specs.Outcome.{Request, Log, Outcome, outcome, isLogged}
 
 -- A printed line: serial, answer and its folder list, or `-` and the number of a request that was not logged.

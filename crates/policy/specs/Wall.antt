@@ -108,13 +108,15 @@ pub record Strayed (w : Wall) (h : Held) : Type 0 where
 abbrev pub Broken : Wall → Held → Type 0
 Broken w h = TwoHeld w h ⊎ Strayed w h
 
--- 'Some reading by s and then some reading or writing by s, starting from what is held at that moment, break the wall.'
+-- 'Some reading by s and then some reading or writing by s, starting from what is held at that moment, break the wall.' Both uses are of
+-- rights that stand, the asked one joined.
 pub record Breaks (w : Wall) (k : Rights) (h : Held) (s : ℕ) : Type 0 where
   pub first : ℕ
   pub second : ℕ
+  pub first-right : k .read s first ≡ true
   pub breaks :
-      Broken w (used k (reading s second) (used k (reading s first) h))
-      ⊎ Broken w (used k (writing s second) (used k (reading s first) h))
+      ((k .read s second ≡ true) × Broken w (used k (reading s second) (used k (reading s first) h)))
+      ⊎ ((k .write s second ≡ true) × Broken w (used k (writing s second) (used k (reading s first) h)))
 
 -- A refusal to s of folder o is needful.
 abbrev pub Needful : Wall → Rights → Held → ℕ → ℕ → ℕ → Type 0

@@ -1,7 +1,7 @@
 -- What the register check answers, case by case, by the first find of each search (the number of folders stands for 'none').
 use Prim.Native.Nat.{ℕ, _≤_, _<_}
 use mathlib.Core.Path.{_≡_, refl, sym, _∙_}
-use mathlib.Core.Bool.{Bool, true, false, not, _&&_, false≢true}
+use mathlib.Core.Bool.{Bool, true, false, not, _&&_}
 use mathlib.Core.List.{List, [], _∷_}
 use native.Mathlib.Omega.{arith}
 use lib.Dec.{leb, eqb}
@@ -9,25 +9,26 @@ use lib.ListN.{length, getD}
 use borrow.Author.Tests.{leb-true, eqb-true}
 use Rattle.vocabulary.specs.Answer.{Answer, answer, judge}
 use Rattle.vocabulary.specs.Those.{those, some, smallest}
+use Rattle.vocabulary.proofs.Bools.{both}
 use Rattle.vocabulary.proofs.Those.{first-some, first-none, first-smallest, smallest-holds}
 use Rattle.register.specs.Register.{Register, folders, inRange, loneZero, differs, earlier, later, registerChecks, registerAnswer}
 
-and-left : (a b : Bool) → (a && b) ≡ true → a ≡ true
-and-left true b e = refl
-and-left false b e = absurd (false≢true e)
+-- What it tells that P and F are within their ranges and the lists of one length.
+pub record Ranged (r : Register) : Type 0 where
+  pub logins-few : r .logins ≤ 128
+  pub folders-few : folders r ≤ 512
+  pub folders-alike : folders r ≡ length (r .clients)
 
-and-right : (a b : Bool) → (a && b) ≡ true → b ≡ true
-and-right true b e = e
-and-right false b e = absurd (false≢true e)
-
--- A register in range has at most 512 folders, each with a class and a client.
-pub inRange-folders : (r : Register) → inRange r ≡ true → (folders r ≤ 512) × (folders r ≡ length (r .clients))
-inRange-folders r e =
-    let p : ℕ = r .logins in let f : ℕ = folders r in let alike : Bool = eqb f (length (r .clients)) in
-    let sizes : (leb 1 p && leb p 128 && leb 1 f && leb f 512) ≡ true = and-left (leb 1 p && leb p 128 && leb 1 f && leb f 512) alike e in (
-      leb-true f 512 (and-right (leb 1 p && leb p 128 && leb 1 f) (leb f 512) sizes),
-      eqb-true f (length (r .clients)) (and-right (leb 1 p && leb p 128 && leb 1 f && leb f 512) alike e),
-    )
+pub inRange-ranged : (r : Register) → inRange r ≡ true → Ranged r
+inRange-ranged r e =
+    let alike = both (leb 1 (r .logins) && leb (r .logins) 128 && leb 1 (folders r) && leb (folders r) 512) (eqb (folders r) (length (r .clients))) e in
+    let few = both (leb 1 (r .logins) && leb (r .logins) 128 && leb 1 (folders r)) (leb (folders r) 512) (alike .0) in
+    let some = both (leb 1 (r .logins) && leb (r .logins) 128) (leb 1 (folders r)) (few .0) in
+    record {
+      logins-few = leb-true (r .logins) 128 (both (leb 1 (r .logins)) (leb (r .logins) 128) (some .0) .1);
+      folders-few = leb-true (folders r) 512 (few .1);
+      folders-alike = eqb-true (folders r) (length (r .clients)) (alike .1);
+    }
 
 -- The folders that refusal 2 names.
 abbrev pub lone : Register → List ℕ

@@ -1,4 +1,4 @@
--- A folder's label: its class and its client.
+-- A folder's label: its class and its client (document 01, 'The register').
 use Prim.Native.Nat.{ℕ}
 use Rattle.register.specs.declared.Label.{Label}
 

@@ -2,7 +2,7 @@
 use Prim.Native.Nat.{ℕ}
 use mathlib.Core.Path.{_≡_}
 use mathlib.Core.Bool.{Bool, true, false, not, _&&_}
-use mathlib.Core.List.{List, [], _∷_, _++_}
+use mathlib.Core.List.{List, [], _∷_}
 use lib.ListN.{length, getD}
 use lib.Dec.{leb, eqb}
 use Rattle.vocabulary.specs.Answer.{Answer, Check, answer, check, judge}
@@ -37,7 +37,7 @@ clientOf r f = getD (r .clients) f 0
 abbrev pub sanitised : Register → ℕ → Bool
 sanitised r f = eqb (clientOf r f) 0
 
--- Refusal 1: P or F beyond its range, or lists of unequal length.
+-- P and F within their ranges and lists of equal length; else refusal 1.
 abbrev pub inRange : Register → Bool
 inRange r = leb 1 (r .logins) && leb (r .logins) 128 && leb 1 (folders r) && leb (folders r) 512 && eqb (folders r) (length (r .clients))
 

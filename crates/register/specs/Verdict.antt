@@ -1,6 +1,5 @@
 -- The register check's answers, by document 01's numbers.
-use Prim.Native.Nat.{ℕ}
-use mathlib.Core.List.{List, [], _∷_}
+use mathlib.Core.List.{[], _∷_}
 use Rattle.vocabulary.specs.Answer.{Answer, answer}
 use Rattle.register.specs.declared.Verdict.{Verdict}
 use Rattle.register.specs.declared.Verdict.the-variants.{Accepted, OutOfRange, LoneZero, TwoClasses}

@@ -1,6 +1,8 @@
 // Searches through the folders' labels.
 use crate::Label;
 use crate::labelled;
+use ids::same_class;
+use ids::same_client;
 ghost use Prim.Native.Nat.{_<_, _≤_};
 ghost use mathlib.Core.Path.{_≡_};
 ghost use mathlib.Core.Bool.{not, _&&_};
@@ -21,7 +23,11 @@ fn lone_zero(l: Label) -> bool
 fn differ(f: Label, g: Label) -> bool
     ensures { λ r. ⌜ r ≡ eqb (g .client .0) (f .client .0) && not (eqb (g .class .0) (f .class .0)) ⌝ }
 {
-    (g.client.0 == f.client.0) & (g.class.0 != f.class.0)
+    let client = f.client;
+    let class = f.class;
+    let other = g.class;
+    let owner = g.client;
+    same_client(owner, client) & !same_class(other, class)
 }
 
 // A folder's label, from its place in the two lists.

@@ -161,3 +161,11 @@ some-those-suc p i = rw those-suc (at (those p i) (p i))
     at [] true = refl
     at [] false = refl
     at (x ∷ xs) b = refl
+
+-- The first number that a loop finds is the smallest.
+pub smallest-found : (p : ℕ → Bool) (i n : ℕ) → those p i ≡ [] → p i ≡ true → i < n → i ≡ smallest (those p n)
+smallest-found p i n e f h = rw (those-found p i n e f h .1)
+
+-- A loop that has come to the bound has searched all.
+pub those-end : (p : ℕ → Bool) (i n : ℕ) → n ≤ i → i ≤ n → those p i ≡ those p n
+those-end p i n low high = let same : i ≡ n = omega arith in rw same

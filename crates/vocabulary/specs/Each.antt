@@ -1,5 +1,5 @@
 -- A list changed place by place.
-use Prim.Native.Nat.{ℕ, zero, suc}
+use Prim.Native.Nat.{ℕ, suc}
 use mathlib.Core.List.{List, [], _∷_}
 
 -- Each element becomes what the function makes of its place, counted from 0, and of the element.

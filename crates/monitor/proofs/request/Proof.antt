@@ -35,13 +35,13 @@ cast-start c = search needs
 mul-start : tie.Need-mul-start
 mul-start c =
     let o = opened (registerOf (c .before .before .before .before .before .before .before .before .args .logins) (c .before .before .before .before .before .before .before .before .args .classes .now) (c .before .before .before .before .before .before .before .before .args .clients .now)) (c .before .before .before .before .before .before .before .before .args .matrix .now) (requestOf (c .before .before .before .before .before .before .before .before .args .login) (c .before .before .before .before .before .before .before .before .args .folder) (c .before .before .before .before .before .before .before .before .args .kind)) (logOf (c .before .before .before .before .before .before .before .before .args .log .now) (c .before .before .before .before .before .before .before .before .args .end) (c .before .before .before .before .before .before .before .before .args .serial)) (rw (c .before .enum-told .given .1) at (c .before .before .before .judge-front .ensures)) in
-    omega (arith, row-fits (c .before .before .before .before .before .before .before .before .args .login .0) (c .before .before .before .before .before .before .before .before .args .logins) (length (c .before .before .before .before .before .before .before .before .args .classes .now)) (o .login-known), product-fits (o .logins-few) (o .folders-few))
+    omega (arith, row-fits (c .before .before .before .before .before .before .before .before .args .login .0) (c .before .before .before .before .before .before .before .before .args .logins) (length (c .before .before .before .before .before .before .before .before .args .classes .now)) (o .login-known), product-fits (o .ranged .logins-few) (o .ranged .folders-few))
 
 -- src/lib.rt:81:24
 add-stop : tie.Need-add-stop
 add-stop c =
     let o = opened (registerOf (c .before .before .before .before .before .before .before .before .args .logins) (c .before .before .before .before .before .before .before .before .args .classes .now) (c .before .before .before .before .before .before .before .before .args .clients .now)) (c .before .before .before .before .before .before .before .before .args .matrix .now) (requestOf (c .before .before .before .before .before .before .before .before .args .login) (c .before .before .before .before .before .before .before .before .args .folder) (c .before .before .before .before .before .before .before .before .args .kind)) (logOf (c .before .before .before .before .before .before .before .before .args .log .now) (c .before .before .before .before .before .before .before .before .args .end) (c .before .before .before .before .before .before .before .before .args .serial)) (rw (c .before .enum-told .given .1) at (c .before .before .before .judge-front .ensures)) in
-    omega (arith, row-fits (c .before .before .before .before .before .before .before .before .args .login .0) (c .before .before .before .before .before .before .before .before .args .logins) (length (c .before .before .before .before .before .before .before .before .args .classes .now)) (o .login-known), product-fits (o .logins-few) (o .folders-few))
+    omega (arith, row-fits (c .before .before .before .before .before .before .before .before .args .login .0) (c .before .before .before .before .before .before .before .before .args .logins) (length (c .before .before .before .before .before .before .before .before .args .classes .now)) (o .login-known), product-fits (o .ranged .logins-few) (o .ranged .folders-few))
 
 -- src/lib.rt:82:26
 sub-serve : tie.Need-sub-serve
@@ -55,14 +55,14 @@ part-serve-start c = search needs
 part-serve-end : tie.Need-part-serve-end
 part-serve-end c =
     let o = opened (registerOf (c .before .before .before .before .before .before .before .before .args .logins) (c .before .before .before .before .before .before .before .before .args .classes .now) (c .before .before .before .before .before .before .before .before .args .clients .now)) (c .before .before .before .before .before .before .before .before .args .matrix .now) (requestOf (c .before .before .before .before .before .before .before .before .args .login) (c .before .before .before .before .before .before .before .before .args .folder) (c .before .before .before .before .before .before .before .before .args .kind)) (logOf (c .before .before .before .before .before .before .before .before .args .log .now) (c .before .before .before .before .before .before .before .before .args .end) (c .before .before .before .before .before .before .before .before .args .serial)) (rw (c .before .enum-told .given .1) at (c .before .before .before .judge-front .ensures)) in
-    omega (arith, row-fits (c .before .before .before .before .before .before .before .before .args .login .0) (c .before .before .before .before .before .before .before .before .args .logins) (length (c .before .before .before .before .before .before .before .before .args .classes .now)) (o .login-known), product-fits (o .logins-few) (o .folders-few), o .whole)
+    omega (arith, row-fits (c .before .before .before .before .before .before .before .before .args .login .0) (c .before .before .before .before .before .before .before .before .args .logins) (length (c .before .before .before .before .before .before .before .before .args .classes .now)) (o .login-known), product-fits (o .ranged .logins-few) (o .ranged .folders-few), o .whole)
 
 -- src/lib.rt:82:13
 serve-requires : tie.Need-serve-requires
 serve-requires c κs =
     let o = opened (registerOf (c .before .before .before .before .before .before .before .before .before .before .args .logins) (c .before .before .before .before .before .before .before .before .before .before .args .classes .now) (c .before .before .before .before .before .before .before .before .before .before .args .clients .now)) (c .before .before .before .before .before .before .before .before .before .before .args .matrix .now) (requestOf (c .before .before .before .before .before .before .before .before .before .before .args .login) (c .before .before .before .before .before .before .before .before .before .before .args .folder) (c .before .before .before .before .before .before .before .before .before .before .args .kind)) (logOf (c .before .before .before .before .before .before .before .before .before .before .args .log .now) (c .before .before .before .before .before .before .before .before .before .before .args .end) (c .before .before .before .before .before .before .before .before .before .before .args .serial)) (rw (c .before .before .before .enum-told .given .1) at (c .before .before .before .before .before .judge-front .ensures)) in
     let l = length-rowOf (registerOf (c .before .before .before .before .before .before .before .before .before .before .args .logins) (c .before .before .before .before .before .before .before .before .before .before .args .classes .now) (c .before .before .before .before .before .before .before .before .before .before .args .clients .now)) (c .before .before .before .before .before .before .before .before .before .before .args .matrix .now) (o .whole) (c .before .before .before .before .before .before .before .before .before .before .args .login .0) (o .login-known) in
-    rw (add-sub-cancel-left, l) (refl, sym (o .folders-alike), o .folders-few, o .folder-known)
+    rw (add-sub-cancel-left, l) (refl, sym (o .ranged .folders-alike), o .ranged .folders-few, o .folder-known)
 
 -- src/lib.rt:57:1
 returns : tie.Need-returns

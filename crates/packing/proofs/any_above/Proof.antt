@@ -1,6 +1,6 @@
 -- `any_above` meets its contract. The invariant: `any` says whether the search found something below i.
-use Rattle.packing.proofs.Searches.{some-suc, those-end}
-use mathlib.Core.Path.{ap, _∙_}
+use Rattle.vocabulary.proofs.Those.{some-those-suc, those-end}
+use mathlib.Core.Path.{ap, sym, _∙_}
 use Prim.Native.Nat.{_≤_, _-_}
 use mathlib.Core.Path.{_≡_, refl}
 use lib.ListN.{length}
@@ -32,7 +32,7 @@ loop-less c = search needs
 
 loop-again : tie.Need-loop-again Inv-loop μ-loop
 loop-again c =
-    (search needs, some-suc _ _ (c .before .before .loop .inv .1))
+    (search needs, rw (c .before .before .loop .inv .1) (sym (some-those-suc _ _)))
 
 returns : tie.Need-returns Inv-loop μ-loop
 unfolding aboves

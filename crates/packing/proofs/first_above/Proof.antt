@@ -7,7 +7,7 @@ use Rattle.packing.specs.Outcome.{above, aboves}
 use Rattle.vocabulary.specs.Those.{those, smallest}
 use mathlib.Core.List.{[]}
 use borrow.Author.Tests.{lt-ltb, le-ltb}
-use Rattle.packing.proofs.Searches.{those-nothing, smallest-at, those-end}
+use Rattle.vocabulary.proofs.Those.{those-none, smallest-found, those-end}
 use borrow.Author.Needs.{needs}
 use Rattle.packing.proofs.first_above.Statement.{statement}
 use Rattle.packing.proofs.first_above.Tie as tie
@@ -29,7 +29,7 @@ shared-slice-read-if1 c = search needs
 returns : tie.Need-returns Inv-loop μ-loop
 unfolding aboves
 returns c =
-    smallest-at _ _ _ (c .before .before .before .loop .inv .1) (lt-ltb _ _ (c .if1 .taken)) (c .before .before .loop-test .taken)
+    smallest-found _ _ _ (c .before .before .before .loop .inv .1) (lt-ltb _ _ (c .if1 .taken)) (c .before .before .loop-test .taken)
 
 add-i : tie.Need-add-i Inv-loop μ-loop
 add-i c = search needs
@@ -39,7 +39,7 @@ loop-less c = search needs
 
 loop-again : tie.Need-loop-again Inv-loop μ-loop
 loop-again c =
-    (search needs, those-nothing _ _ (c .before .before .before .loop .inv .1) (le-ltb _ _ (c .if1 .left)))
+    (search needs, those-none _ _ (c .before .before .before .loop .inv .1) (le-ltb _ _ (c .if1 .left)))
 
 returns-2 : tie.Need-returns-2 Inv-loop μ-loop
 unfolding aboves

@@ -1,6 +1,6 @@
 -- `pack` meets its contract: each return is one law of the outcome.
 use Rattle.packing.proofs.Outcomes.{all-cells, pack-unequal, pack-above, pack-packed}
-use Rattle.packing.proofs.Searches.{some-nil}
+use Rattle.vocabulary.proofs.Those.{some-none}
 use mathlib.Core.Path.{_∙_, sym}
 use borrow.Author.Needs.{needs}
 use Rattle.packing.proofs.pack.Statement.{statement}
@@ -25,14 +25,14 @@ returns-2 c =
 
 write-bytes-requires : tie.Need-write-bytes-requires
 write-bytes-requires c κs =
-    (search needs, all-cells _ (some-nil _ (sym (c .before .before .any-above .ensures) ∙ c .before .if2 .left)))
+    (search needs, all-cells _ (some-none _ (sym (c .before .before .any-above .ensures) ∙ c .before .if2 .left)))
 
 same-length : tie.Need-same-length
 same-length c = search needs
 
 returns-3 : tie.Need-returns-3
 returns-3 c =
-    pack-packed _ _ (search needs) _ (some-nil _ (sym (c .before .before .before .before .before .any-above .ensures) ∙ c .before .before .before .before .if2 .left)) (c .before .before .write-bytes .ensures)
+    pack-packed _ _ (search needs) _ (some-none _ (sym (c .before .before .before .before .before .any-above .ensures) ∙ c .before .before .before .before .if2 .left)) (c .before .before .write-bytes .ensures)
 
 pub pack-spec : {M : Type 1} → statement M
 pack-spec =

@@ -8,7 +8,7 @@ use denote.Ref.{now}
 use borrow.Author.Tests.{not-true, not-false}
 use borrow.Author.Needs.{needs}
 use Rattle.register.specs.Register.{Register, registerOf, folders, inRange, earlier, later}
-use Rattle.register.proofs.Answers.{inRange-folders, answer-range, answer-lone, answer-later, answer-accepted}
+use Rattle.register.proofs.Answers.{Ranged, inRange-ranged, answer-range, answer-lone, answer-later, answer-accepted}
 use Rattle.register.proofs.check.Statement.{statement}
 use Rattle.register.proofs.check.Tie as tie
 
@@ -19,8 +19,8 @@ asked c = registerOf (c .before .before .before .before .args .logins) (now (c .
 fits : (c : tie.Else1) → inRange (asked c) ≡ true
 fits c = sym (c .before .in-range .ensures) ∙ not-false _ (c .if1 .left)
 
-sizes : (c : tie.Else1) → (folders (asked c) ≤ 512) × (folders (asked c) ≡ length (asked c .clients))
-sizes c = inRange-folders (asked c) (fits c)
+sizes : (c : tie.Else1) → Ranged (asked c)
+sizes c = inRange-ranged (asked c) (fits c)
 
 in-range-requires : tie.Need-in-range-requires
 in-range-requires c κs = search needs

@@ -1,7 +1,7 @@
-use Rattle.monitor.proofs.FirstRows.{range-logins, registered-range, register-open, register-refused}
+use Rattle.monitor.proofs.FirstRows.{registered-range, register-open, register-refused}
 use Rattle.monitor.specs.Stages.{frontChecks}
 use Rattle.monitor.specs.Reply.{requestOf}
-use Rattle.register.proofs.Answers.{inRange-folders}
+use Rattle.register.proofs.Answers.{inRange-ranged}
 use Rattle.register.specs.Register.{registerOf}
 use Rattle.vocabulary.specs.Answer.{answer}
 use lib.ListN.{length}
@@ -40,7 +40,8 @@ enum-told-2 c = search needs
 known-requires : tie.Need-known-requires
 known-requires c κs =
     let e = registered-range (registerOf (c .before .before .before .before .before .args .logins) (c .before .before .before .before .before .args .classes .now) (c .before .before .before .before .before .args .clients .now)) (rw (c .enum-told2 .given .1) at (c .before .before .check .ensures)) in
-    (range-logins (registerOf (c .before .before .before .before .before .args .logins) (c .before .before .before .before .before .args .classes .now) (c .before .before .before .before .before .args .clients .now)) e, inRange-folders (registerOf (c .before .before .before .before .before .args .logins) (c .before .before .before .before .before .args .classes .now) (c .before .before .before .before .before .args .clients .now)) e .0)
+    let g = inRange-ranged (registerOf (c .before .before .before .before .before .args .logins) (c .before .before .before .before .before .args .classes .now) (c .before .before .before .before .before .args .clients .now)) e in
+    (g .logins-few, g .folders-few)
 
 -- src/front.rt:45:1
 returns : tie.Need-returns
