@@ -1,0 +1,61 @@
+-- The log is exact, in both directions.
+use Prim.Native.Nat.{ℕ, _+_, _≤_}
+use mathlib.Core.Path.{_≡_, refl, sym, ap, _∙_}
+use mathlib.Core.List.{List, _++_}
+use lib.ListN.{length, drop}
+use lib.Seq.{slice}
+use Rattle.audit_log.specs.Record.{Record, recordBytes}
+use Rattle.audit_log.specs.Reader.{stepAt, placeAfter}
+use Rattle.audit_log.specs.WellFormed.{WellFormed, RecordAt, recordAnswer}
+use Rattle.audit_log.proofs.Reader.{step-writes, step-written, step-yields}
+use Rattle.policy.specs.Outcome.{Log, appended}
+use Rattle.log_exact.specs.Exact.{Writing, left, written, entry, Yields, LogExact}
+use Rattle.log_exact.proofs.Appended.{slice-appended, drop-appended, logged-well-formed, logged-room, logged-left}
+use Rattle.log_exact.proofs.Witness.{witness, entry-witness}
+
+module _ (w : Writing) where
+  room : w .log .end + length (recordBytes (entry w)) ≤ length (w .log .bytes)
+  room = logged-room (w .register) (w .matrix) (w .request) (w .log) (w .logged)
+
+  appends : left w .log ≡ appended (w .log) (recordBytes (entry w))
+  appends = logged-left (w .register) (w .matrix) (w .request) (w .log) (w .logged)
+
+  -- The bytes that a request appended are its record's.
+  written-bytes : written w ≡ recordBytes (entry w)
+  written-bytes = ap (λ (l : Log). slice (w .log .end) (l .end) (l .bytes)) appends ∙ slice-appended (w .log) (recordBytes (entry w)) room
+
+  fits : WellFormed (entry w)
+  fits = logged-well-formed (w .register) (w .matrix) (w .request) (w .log) (w .logged) (w .serial)
+
+  read-back : (log : List ℕ) (place : ℕ) (rest : List ℕ) → drop place log ≡ written w ++ rest → stepAt log place ≡ recordAnswer place (entry w)
+  read-back log place rest h = step-writes log place (entry w) rest fits (h ∙ ap (λ (l : List ℕ). l ++ rest) written-bytes)
+
+  -- In the log that it left they stand at the old end.
+  drop-left : drop (w .log .end) (left w .log .bytes) ≡ written w ++ drop (w .log .end + length (recordBytes (entry w))) (w .log .bytes)
+  drop-left = rw written-bytes (ap (λ (l : Log). drop (w .log .end) (l .bytes)) appends ∙ drop-appended (w .log) (recordBytes (entry w)) room)
+
+-- A record that stands at a place is the witness's.
+yielded : (log : List ℕ) (place : ℕ) (r : RecordAt log place) → (w : Writing) × Yields log place w
+yielded log place r =
+    let w = witness (r .entry) (r .well-formed) in
+    let same : entry w ≡ r .entry = entry-witness (r .entry) (r .well-formed) in
+    let bytes : written w ≡ recordBytes (r .entry) = written-bytes w ∙ ap recordBytes same in (
+      w,
+      record {
+        fields = step-yields log place r ∙ ap (recordAnswer place) (sym same);
+        bytes = r .bytes ∙ ap (λ (l : List ℕ). l ++ drop (place + length l) log) (sym bytes);
+      },
+    )
+
+read-left : (w : Writing) → stepAt (left w .log .bytes) (w .log .end) ≡ recordAnswer (w .log .end) (entry w)
+read-left w =
+    read-back w (left w .log .bytes) (w .log .end) (drop (w .log .end + length (recordBytes (entry w))) (w .log .bytes)) (drop-left w)
+
+pub log-exact : LogExact
+log-exact =
+    record {
+      reads = read-back;
+      reads-new = read-left;
+      new-end = λ w. ap placeAfter (read-left w) ∙ sym (ap (λ (l : Log). l .end) (appends w));
+      accepts = λ log place bs e. yielded log place (step-written log place bs e);
+    }

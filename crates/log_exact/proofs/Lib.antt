@@ -1,0 +1,6 @@
+pub mod Rising
+pub mod Wall
+pub mod Appended
+pub mod Witness
+pub mod Exact
+pub mod Session

@@ -1,0 +1,53 @@
+-- The log is exact: the reader accepts the records that the writer can write, no other bytes, and yields the same fields. The records
+-- 'are meant over all registers and rows, blank start or not' (document 01, 'The log').
+use Prim.Native.Nat.{ℕ, _+_, _≤_}
+use mathlib.Core.Path.{_≡_}
+use mathlib.Core.Bool.{true}
+use mathlib.Core.List.{List, _++_}
+use lib.ListN.{length, drop}
+use lib.Seq.{slice}
+use Rattle.varint.specs.Bytes.{Bytes}
+use Rattle.register.specs.Register.{Register, Accepted}
+use Rattle.audit_log.specs.Record.{Record}
+use Rattle.audit_log.specs.Reader.{stepAt, placeAfter}
+use Rattle.audit_log.specs.WellFormed.{recordAnswer}
+use Rattle.policy.specs.Outcome.{Request, Log, Outcome, isLogged, recordOf, outcome}
+
+-- A request that the writer has logged: to an accepted register, on any matrix and log, with a serial of 16 bits.
+pub record Writing : Type 0 where
+  pub register : Register
+  pub matrix : List ℕ
+  pub request : Request
+  pub log : Log
+  pub accepted : Accepted register
+  pub serial : log .serial ≤ 65535
+  pub logged : isLogged (outcome register matrix request log .answer) ≡ true
+
+-- What it left.
+abbrev pub left : Writing → Outcome
+left w = outcome (w .register) (w .matrix) (w .request) (w .log)
+
+-- The very bytes that it appended: those from the log's old end to its new end.
+abbrev pub written : Writing → List ℕ
+written w = slice (w .log .end) (left w .log .end) (left w .log .bytes)
+
+-- What was recorded: the request, its serial and its answer.
+abbrev pub entry : Writing → Record
+entry w = recordOf (w .request) (w .log .serial) (left w .answer)
+
+-- What the reader yields at a place is what a request wrote: its fields, the place of its list and the place after it; and its bytes
+-- stand there.
+pub record Yields (log : List ℕ) (place : ℕ) (w : Writing) : Type 0 where
+  pub fields : stepAt log place ≡ recordAnswer place (entry w)
+  pub bytes : drop place log ≡ written w ++ drop (place + length (written w)) log
+
+pub record LogExact : Type 0 where
+  -- Where bytes stand that a request wrote, a step yields its record, whatever stands before and after them.
+  pub reads : (w : Writing) (log : List ℕ) (place : ℕ) (rest : List ℕ) → drop place log ≡ written w ++ rest →
+      stepAt log place ≡ recordAnswer place (entry w)
+  -- So a step on the log that a request left, at the log's old end, yields its record.
+  pub reads-new : (w : Writing) → stepAt (left w .log .bytes) (w .log .end) ≡ recordAnswer (w .log .end) (entry w)
+  -- The place after it is the log's new end.
+  pub new-end : (w : Writing) → placeAfter (stepAt (left w .log .bytes) (w .log .end)) ≡ left w .log .end
+  -- Whatever a step accepts in a list of bytes, some request wrote.
+  pub accepts : (log : List ℕ) (place : ℕ) → Bytes log → stepAt log place .number ≡ 0 → (w : Writing) × Yields log place w
