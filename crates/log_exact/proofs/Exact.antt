@@ -1,15 +1,15 @@
 -- The log is exact, in both directions.
 use Prim.Native.Nat.{ℕ, _+_, _≤_}
-use mathlib.Core.Path.{_≡_, refl, sym, ap, _∙_}
+use mathlib.Core.Path.{_≡_, sym, ap, _∙_}
 use mathlib.Core.List.{List, _++_}
 use lib.ListN.{length, drop}
 use lib.Seq.{slice}
-use Rattle.audit_log.specs.Record.{Record, recordBytes}
+use Rattle.audit_log.specs.Record.{recordBytes}
 use Rattle.audit_log.specs.Reader.{stepAt, placeAfter}
 use Rattle.audit_log.specs.WellFormed.{WellFormed, RecordAt, recordAnswer}
-use Rattle.audit_log.proofs.Reader.{step-writes, step-written, step-yields}
 use Rattle.policy.specs.Outcome.{Log, appended}
 use Rattle.log_exact.specs.Exact.{Writing, left, written, entry, Yields, LogExact}
+use Rattle.audit_log.proofs.Reader.{step-writes, step-written, step-yields}
 use Rattle.log_exact.proofs.Appended.{slice-appended, drop-appended, logged-well-formed, logged-room, logged-left}
 use Rattle.log_exact.proofs.Witness.{witness, entry-witness}
 

@@ -1,10 +1,10 @@
 -- The writer's log passes the whole-log check: it is a chain of well-formed records, each with the serial after the one before.
-use Prim.Native.Nat.{ℕ, suc, _+_, _%_, _≤_}
+use Prim.Native.Nat.{ℕ, suc, _+_, _≤_}
 use native.Mathlib.Omega.{arith}
 use native.Mathlib.Nat.{add-zero, zero-add}
 use mathlib.Core.Path.{_≡_, refl, sym, ap, _∙_}
 use mathlib.Core.Logic.{_⊎_, inl, inr}
-use mathlib.Core.Bool.{Bool, true, false, or-true, false≢true}
+use mathlib.Core.Bool.{true, false, or-true, false≢true}
 use mathlib.Core.List.{List, [], _∷_, _++_, append-assoc, append-nil}
 use lib.ListN.{length, take, drop, length-drop}
 use Rattle.vocabulary.specs.Answer.{answer}
@@ -14,12 +14,12 @@ use Rattle.register.specs.Register.{Register}
 use Rattle.audit_log.specs.Record.{Record, recordBytes}
 use Rattle.audit_log.specs.Reader.{inTurn, checkedFrom, checked}
 use Rattle.audit_log.specs.WellFormed.{WellFormed, RecordAt}
-use Rattle.audit_log.proofs.Reader.{drop-on, step-onward}
-use Rattle.audit_log.proofs.WholeLog.{step-end, checked-end, checked-record}
 use Rattle.policy.specs.Outcome.{Request, Log, Outcome, decision, isLogged, recordOf, logged, outcome}
 use Rattle.policy.specs.Session.{Session, session}
-use Rattle.policy.proofs.Outcome.{tooLong, outcome-unlogged, outcome-long}
 use Rattle.log_exact.specs.Session.{records, emptyLog, WriterPasses}
+use Rattle.audit_log.proofs.Reader.{drop-on, step-onward}
+use Rattle.audit_log.proofs.WholeLog.{step-end, checked-end, checked-record}
+use Rattle.policy.proofs.Outcome.{tooLong, outcome-unlogged, outcome-long}
 use Rattle.log_exact.proofs.Appended.{take-appended, logged-well-formed, logged-room, logged-left}
 
 -- Records one after the other.

@@ -4,27 +4,28 @@
 use Prim.Native.Nat.{ℕ, _+_, _-_, _*_, _%_, _≤_, _<_}
 use native.Mathlib.Omega.{arith}
 use mathlib.Core.Path.{_≡_, refl, sym, ap, _∙_}
-use mathlib.Core.Logic.{_⊎_, inl, inr, ⊎-elim}
+use mathlib.Core.Logic.{_⊎_, inl, inr}
 use mathlib.Core.Bool.{Bool, true, false, cond, not, _&&_, _||_, and-false, and-assoc, false≢true}
-use mathlib.Core.List.{List, [], _∷_, _++_}
-use lib.ListN.{length, getD, take, drop, replicate, length-replicate}
+use mathlib.Core.List.{List, [], _∷_}
+use lib.ListN.{length, getD, drop, replicate, length-replicate}
 use lib.Seq.{getD-take, getD-drop}
 use lib.Dec.{eqb, leb, ltb}
-use borrow.Author.Tests.{lt-ltb, le-ltb, lt-leb, le-leb, eq-eqb, ne-eqb, eqb-true, eqb-false, not-false}
+use borrow.Author.Tests.{le-ltb, lt-leb, le-leb, eqb-true, eqb-false, not-false}
 use Rattle.vocabulary.specs.Answer.{Answer, answer, judge}
 use Rattle.vocabulary.specs.Each.{each}
 use Rattle.vocabulary.specs.Those.{those, some, smallest, member}
 use Rattle.vocabulary.proofs.Each.{length-each, getD-each}
 use Rattle.vocabulary.proofs.Those.{those-agree, those-never}
 use Rattle.vocabulary.proofs.Judge.{Passed, judge-append, judge-passed}
-use Rattle.vocabulary.proofs.Bools.{both, either, neither, not-both, eqb-self, true-or-false, cond-same}
+use Rattle.vocabulary.proofs.Bools.{neither, eqb-self, true-or-false, cond-same}
 use Rattle.register.specs.Register.{Register, folders, classOf, clientOf, exactlyOne, loneZero, differs, earlier, later, registerChecks, registerAnswer, Accepted}
 use Rattle.audit_log.specs.Record.{Record, recordBytes}
 use Rattle.audit_log.specs.Rule.{canAnswer, badCount}
-use Rattle.audit_log.specs.WellFormed.{Rising, WellFormed}
-use Rattle.policy.specs.Rules.{rowOf, cell, canRead, canWrite, writes, revokes, rival, foreign, atStake, rivals, foreigners, stakes, lost}
+use Rattle.audit_log.specs.WellFormed.{WellFormed}
+use Rattle.policy.specs.Rules.{rowOf, cell, writes, revokes, rival, foreign, atStake, rivals, foreigners, stakes, lost}
 use Rattle.policy.specs.Outcome.{Request, Log, requestChecks, wallChecks, wallAnswer, decision, outcome, logged, isLogged, recordOf}
 use Rattle.log_exact.specs.Exact.{Writing, entry}
+use Rattle.audit_log.proofs.Reader.{Answers, answer-cases}
 use Rattle.log_exact.proofs.Rising.{rising-without, those-rising}
 
 -- ---- the answers that the wall gives where it finds the listed folders or none
@@ -81,42 +82,26 @@ walled-0 kind l h e = by (true-or-false (eqb kind 2 || eqb kind 3)) (true-or-fal
 
 walled-right : (kind given : ℕ) (l : List ℕ) → (1 ≤ kind) × (kind ≤ 4) → canAnswer kind given ≡ true → badCount kind given (length l) ≡ false →
     walled kind given l ≡ answer given l
-walled-right kind given l h a c =
-    ⊎-elim
-    (λ f.
-    ⊎-elim
-    (λ g. ⊎-elim zero twenty (either (eqb given 0) (eqb given 20) g))
-    (λ g. twenty-one (both (eqb given 21) (eqb kind 3 || eqb kind 4) g))
-    (either (eqb given 0 || eqb given 20) (eqb given 21 && (eqb kind 3 || eqb kind 4)) f))
-    (λ f. twenty-two (both (eqb given 22) (eqb kind 2) f))
-    (either (eqb given 0 || eqb given 20 || (eqb given 21 && (eqb kind 3 || eqb kind 4))) (eqb given 22 && eqb kind 2) a)
+walled-right kind given l h a c = go (answer-cases kind given a)
   where
-    zero : eqb given 0 ≡ true → walled kind given l ≡ answer given l
-    zero z = let n = eqb-true given 0 z in rw n (walled-0 kind l h (rw n at c))
+    one : eqb given 0 ≡ false → (x : ℕ) × (l ≡ x ∷ [])
+    one d = refused-one kind given l d c
 
-    twenty : eqb given 20 ≡ true → walled kind given l ≡ answer given l
-    twenty z = let n = eqb-true given 20 z in let one = refused-one kind given l (rw n) c in rw (n, one .1)
-
-    twenty-one : (eqb given 21 ≡ true) × ((eqb kind 3 || eqb kind 4) ≡ true) → walled kind given l ≡ answer given l
-    twenty-one z = let n = eqb-true given 21 (z .0) in let one = refused-one kind given l (rw n) c in rw (n, z .1, one .1)
-
-    twenty-two : (eqb given 22 ≡ true) × (eqb kind 2 ≡ true) → walled kind given l ≡ answer given l
-    twenty-two z =
-        let n = eqb-true given 22 (z .0) in
-        let one = refused-one kind given l (rw n) c in
-        rw (n, eqb-true kind 2 (z .1), one .1)
+    go : Answers kind given → walled kind given l ≡ answer given l
+    go (inl n) = rw n (walled-0 kind l h (rw n at c))
+    go (inr (inl n)) = rw (n, one (rw n) .1)
+    go (inr (inr (inl n))) = rw (n .0, n .1, one (rw (n .0)) .1)
+    go (inr (inr (inr n))) = rw (n .0, eqb-true kind 2 (n .1), one (rw (n .0)) .1)
 
 -- Each answer that a kind can have is logged.
 can-logged : (kind given : ℕ) → canAnswer kind given ≡ true → (eqb given 0 || (eqb given 20 || eqb given 21 || eqb given 22)) ≡ true
-can-logged kind given e =
-    ⊎-elim
-    (λ f.
-    ⊎-elim
-    (λ g. ⊎-elim (λ z. rw (eqb-true given 0 z)) (λ z. rw (eqb-true given 20 z)) (either (eqb given 0) (eqb given 20) g))
-    (λ g. rw (eqb-true given 21 (both (eqb given 21) (eqb kind 3 || eqb kind 4) g .0)))
-    (either (eqb given 0 || eqb given 20) (eqb given 21 && (eqb kind 3 || eqb kind 4)) f))
-    (λ f. rw (eqb-true given 22 (both (eqb given 22) (eqb kind 2) f .0)))
-    (either (eqb given 0 || eqb given 20 || (eqb given 21 && (eqb kind 3 || eqb kind 4))) (eqb given 22 && eqb kind 2) e)
+can-logged kind given e = go (answer-cases kind given e)
+  where
+    go : Answers kind given → (eqb given 0 || (eqb given 20 || eqb given 21 || eqb given 22)) ≡ true
+    go (inl n) = rw n
+    go (inr (inl n)) = rw n
+    go (inr (inr (inl n))) = rw (n .0)
+    go (inr (inr (inr n))) = rw (n .0)
 
 -- ---- the witness
 

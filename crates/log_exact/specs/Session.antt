@@ -7,7 +7,7 @@ use Rattle.vocabulary.specs.Answer.{answer}
 use Rattle.register.specs.Register.{Register}
 use Rattle.audit_log.specs.Reader.{checked}
 use Rattle.policy.specs.Outcome.{Request, Log}
-use Rattle.policy.specs.Session.{Line, logged, unlogged, Session, session}
+use Rattle.policy.specs.Session.{Line, logged, unlogged, session}
 
 -- How many of a session's requests were logged.
 abbrev pub records : List Line → ℕ
