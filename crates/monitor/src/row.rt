@@ -6,12 +6,27 @@ ghost use Prim.Native.Nat.{_≤_};
 ghost use mathlib.Core.Path.{_≡_};
 ghost use mathlib.Core.Bool.{cond};
 ghost use lib.ListN.{length, getD, take};
-ghost use Rattle.vocabulary.specs.Those.{those};
+ghost use Rattle.vocabulary.specs.Those.{some, those};
 ghost use Rattle.vocabulary.specs.Each.{each};
 ghost use Rattle.monitor.specs.Stages.{fitsAt, leftAt, lostAt};
 
+// Whether the row has a folder of the sort looked for: what the walk has seen so far. It passes over every folder, without a branch, so
+// that it can go over several at a time.
+fn any(sort: Sort, row: &[u8], classes: &[u16], clients: &[u16], o: Label) -> bool
+    requires { ⌜ (length (now classes) ≡ length (now row)) × (length (now clients) ≡ length (now row)) ⌝ }
+    ensures { λ r. ⌜ r ≡ some (those (fitsAt sort (now (row .entry)) (now (classes .entry)) (now (clients .entry)) o) (length (now (row .entry)))) ⌝ }
+{
+    let mut seen = false;
+    let mut f = 0;
+    while f < row.len() {
+        seen = seen | rules::fits(sort, row[f], register::labelled(classes[f], clients[f]), o);
+        f += 1;
+    }
+    seen
+}
+
 // The first folder of the sort looked for, or the row's length. What the walk has passed has none.
-pub(crate) fn find(sort: Sort, row: &[u8], classes: &[u16], clients: &[u16], o: Label) -> usize
+fn first(sort: Sort, row: &[u8], classes: &[u16], clients: &[u16], o: Label) -> usize
     requires { ⌜ (length (now classes) ≡ length (now row)) × (length (now clients) ≡ length (now row)) ⌝ }
     ensures { λ r. ⌜ r ≡ getD (those (fitsAt sort (now (row .entry)) (now (classes .entry)) (now (clients .entry)) o) (length (now (row .entry)))) 0 (length (now (row .entry))) ⌝ }
 {
@@ -23,6 +38,17 @@ pub(crate) fn find(sort: Sort, row: &[u8], classes: &[u16], clients: &[u16], o: 
         f += 1;
     }
     f
+}
+
+// The first folder of the sort looked for, or the row's length. Mostly there is none.
+pub(crate) fn find(sort: Sort, row: &[u8], classes: &[u16], clients: &[u16], o: Label) -> usize
+    requires { ⌜ (length (now classes) ≡ length (now row)) × (length (now clients) ≡ length (now row)) ⌝ }
+    ensures { λ r. ⌜ r ≡ getD (those (fitsAt sort (now (row .entry)) (now (classes .entry)) (now (clients .entry)) o) (length (now (row .entry)))) 0 (length (now (row .entry))) ⌝ }
+{
+    if any(sort, row, classes, clients, o) {
+        return first(sort, row, classes, clients, o);
+    }
+    row.len()
 }
 
 // One for a test that holds.

@@ -1,99 +1,39 @@
-use Rattle.monitor.specs.Stages.{fitsAt}
-use Rattle.vocabulary.specs.Those.{those}
-use Rattle.vocabulary.proofs.Those.{first-end, those-none, first-found}
-use lib.ListN.{length}
-use mathlib.Core.Path.{_≡_, refl, sym, _∙_}
-use mathlib.Core.List.{[]}
-use Prim.Native.Nat.{_≤_, _-_}
+use Rattle.vocabulary.proofs.Those.{some-none}
+use Prim.Native.Nat.{ℕ}
+use mathlib.Core.Path.{_≡_, ap, sym, _∙_}
+use mathlib.Core.Bool.{Bool, false}
+use mathlib.Core.List.{List}
+use lib.ListN.{getD}
+use Rattle.vocabulary.specs.Those.{some, those}
 use native.Mathlib.Omega.{arith}
 use borrow.Author.Needs.{needs}
 use Rattle.monitor.proofs.row.find.Statement.{statement}
 use Rattle.monitor.proofs.row.find.Tie as tie
 use Rattle.monitor.proofs.row.find.Reads as reads
 use Rattle.monitor.proofs.row.find.Lts as lts
-use Rattle.monitor.proofs.rules.fits.Reads as fits-reads
-use Rattle.register.proofs.labelled.Reads as labelled-reads
+use Rattle.monitor.proofs.row.any.Reads as any-reads
+use Rattle.monitor.proofs.row.first.Reads as first-reads
 
-abbrev Inv-loop : tie.InvT-loop
-Inv-loop sort row classes clients o f₀ f =
-    (f ≤ length row) × (those (fitsAt sort row classes clients o) f ≡ [])
+-- Where none is found, the first is the default.
+none-first : (p : ℕ → Bool) (n d : ℕ) → some (those p n) ≡ false → d ≡ getD (those p n) 0 d
+none-first p n d e = ap (λ (l : List ℕ). getD l 0 d) (sym (some-none (those p n) e))
 
-abbrev μ-loop : tie.MeasureT-loop
-μ-loop sort row classes clients o f₀ f = length row - f
+-- src/row.rt:48:8
+any-requires : tie.Need-any-requires
+any-requires c κs = search needs
 
--- src/row.rt:16:5
-loop-holds : tie.Need-loop-holds Inv-loop μ-loop
-unfolding those
-loop-holds c =
-    (omega arith, refl)
+-- src/row.rt:49:9
+first-requires : tie.Need-first-requires
+first-requires c κs = search needs
 
--- src/row.rt:17:30
-shared-slice-read-fits : tie.Need-shared-slice-read-fits Inv-loop μ-loop
-shared-slice-read-fits c = search needs
+-- src/row.rt:49:9
+returns : tie.Need-returns
+returns c = search needs
 
--- src/row.rt:17:57
-mul-labelled : tie.Need-mul-labelled Inv-loop μ-loop
-mul-labelled c = search needs
-
--- src/row.rt:17:57
-shared-slice-read-labelled : tie.Need-shared-slice-read-labelled Inv-loop μ-loop
-shared-slice-read-labelled c = search needs
-
--- src/row.rt:17:69
-mul-labelled-2 : tie.Need-mul-labelled-2 Inv-loop μ-loop
-mul-labelled-2 c = search needs
-
--- src/row.rt:17:69
-shared-slice-read-labelled-2 : tie.Need-shared-slice-read-labelled-2 Inv-loop μ-loop
-shared-slice-read-labelled-2 c = search needs
-
--- src/row.rt:17:38
-labelled-requires : tie.Need-labelled-requires Inv-loop μ-loop
-labelled-requires c κs = search needs
-
--- src/row.rt:17:12
-fits-requires : tie.Need-fits-requires Inv-loop μ-loop
-fits-requires c κs = search needs
-
--- src/row.rt:18:13
-returns : tie.Need-returns Inv-loop μ-loop
-returns c =
-    sym (first-found _ _ _ _ (c .before .before .before .before .before .before .before .loop .inv .1) (rw (c .before .before .labelled .ensures) at (sym (c .before .fits2 .ensures) ∙ c .if1 .taken)) (c .before .before .before .before .before .before .loop-test .taken))
-
--- src/row.rt:20:9
-add-f : tie.Need-add-f Inv-loop μ-loop
-add-f c = search needs
-
--- src/row.rt:16:5
-loop-less : tie.Need-loop-less Inv-loop μ-loop
-loop-less c = search needs
-
--- src/row.rt:16:5
-loop-again : tie.Need-loop-again Inv-loop μ-loop
-loop-again c =
-    (omega arith, those-none _ _ (c .before .before .before .before .before .before .before .loop .inv .1) (rw (c .before .before .labelled .ensures) at (sym (c .before .fits2 .ensures) ∙ c .if1 .left)))
-
--- src/row.rt:11:1
-returns-2 : tie.Need-returns-2 Inv-loop μ-loop
+-- src/row.rt:44:1
+returns-2 : tie.Need-returns-2
 returns-2 c =
-    sym (first-end _ _ _ (c .before .loop .inv .1) (c .before .loop .inv .0) (c .loop-test .left))
+    none-first _ _ _ (sym (c .before .any .ensures) ∙ c .if1 .left)
 
 pub find-spec : {M : Type 1} → statement M
-find-spec =
-    tie.close
-    (tie.spec
-    Inv-loop
-    μ-loop
-    loop-holds
-    shared-slice-read-fits
-    mul-labelled
-    shared-slice-read-labelled
-    mul-labelled-2
-    shared-slice-read-labelled-2
-    labelled-requires
-    fits-requires
-    returns
-    add-f
-    loop-less
-    loop-again
-    returns-2)
+find-spec = tie.close (tie.spec any-requires first-requires returns returns-2)
