@@ -39,7 +39,7 @@
 extern "C" {
 #endif
 
-/* ---- the register ------------------------------------------------------------------------------------------------------------- */
+/* ---- the register */
 
 /*
  * The register check. Checks run from top to bottom; the first that fails speaks.
@@ -60,7 +60,7 @@ typedef struct {
 hc_register_answer hc_register_check(size_t logins, const uint16_t *classes, size_t classes_len, const uint16_t *clients,
                                      size_t clients_len);
 
-/* ---- the request -------------------------------------------------------------------------------------------------------------- */
+/* ---- the request */
 
 /*
  * A request of `login` for `folder`. The kinds are 1 read, 2 careful read, 3 write, 4 read and write.
@@ -110,7 +110,7 @@ hc_reply hc_request(size_t logins, const uint16_t *classes, size_t classes_len, 
                     uint8_t *matrix, size_t matrix_len, uint16_t login, uint16_t folder, uint16_t kind, uint8_t *log, size_t log_len,
                     size_t end, uint16_t serial);
 
-/* ---- serials ------------------------------------------------------------------------------------------------------------------ */
+/* ---- serials */
 
 /* The serial after this one: after 65,535 comes 0. */
 uint16_t hc_serial_next(uint16_t serial);
@@ -125,7 +125,7 @@ uint16_t hc_serial_next(uint16_t serial);
  */
 uint8_t hc_serial_compare(uint16_t first, uint16_t second);
 
-/* ---- packed copies of cells --------------------------------------------------------------------------------------------------- */
+/* ---- packed copies of cells */
 
 /* An answer and the place, or the number of records, that it carries. */
 typedef struct {
@@ -154,7 +154,7 @@ hc_placed hc_pack(const uint8_t *cells, size_t cells_len, uint8_t *packed, size_
  */
 hc_placed hc_unpack(const uint8_t *packed, size_t packed_len, uint8_t *cells, size_t cells_len);
 
-/* ---- the log ------------------------------------------------------------------------------------------------------------------ */
+/* ---- the log */
 
 /*
  * A step of the log reader at a place: a record, the end or a refusal. `log_len` is the log's end, not its buffer's length. Start
@@ -208,7 +208,7 @@ typedef struct {
 
 hc_number hc_number_read(const uint8_t *log, size_t log_len, size_t place);
 
-/* ---- the sizes that the compiled library has ---------------------------------------------------------------------------------- */
+/* ---- the sizes that the compiled library has */
 
 #ifdef __cplusplus
 #define HC_STATIC_ASSERT static_assert
