@@ -1,0 +1,233 @@
+// The answers of the crates as records of numbers. Values that an answer does not carry are 0.
+use crate::LogItem;
+use crate::Number;
+use crate::Placed;
+use crate::RegisterAnswer;
+use crate::Reply;
+use audit_log::Checked;
+use audit_log::Entry;
+use audit_log::Fault;
+use audit_log::Item;
+use monitor::Answer;
+use packing::Packing;
+use packing::Unpacking;
+use register::Verdict;
+use serial::Order;
+use varint::Decoded;
+ghost use mathlib.Core.Path.{_≡_};
+ghost use Rattle.audit_log.specs.Item.{checkedAnswer, entryAnswer, faultAnswer, itemAnswer};
+ghost use Rattle.monitor.specs.Reply.{replyAnswer};
+ghost use Rattle.packing.specs.Answers.{packing, unpacking};
+ghost use Rattle.register.specs.Verdict.{verdictAnswer};
+ghost use Rattle.serial.specs.Number.{number};
+ghost use Rattle.varint.specs.Reading.{decodedAnswer};
+ghost use Rattle.housechervil.specs.Records.{itemOf, numberOf, placedItem, placedOf, registerRecord, replyOf};
+
+// ---- the register
+
+// An answer of the register check and the folders that it carries.
+fn folders(number: u16, first: u16, second: u16) -> RegisterAnswer
+    ensures { λ r. ⌜ r ≡ record { number = number; first = first; second = second } ⌝ }
+{
+    RegisterAnswer {
+        number: number,
+        first: first,
+        second: second,
+    }
+}
+
+pub(crate) fn verdict(v: Verdict) -> RegisterAnswer
+    ensures { λ r. ⌜ r ≡ registerRecord (verdictAnswer v) ⌝ }
+{
+    match v {
+        Verdict::Accepted => folders(0, 0, 0),
+        Verdict::OutOfRange => folders(1, 0, 0),
+        Verdict::LoneZero(f) => folders(2, f.0, 0),
+        Verdict::TwoClasses(f, g) => folders(3, f.0, g.0),
+    }
+}
+
+// ---- the request
+
+// A refusal with the folders that it carries.
+fn refused(number: u16, first: u16, second: u16, end: usize, serial: u16) -> Reply
+    ensures { λ r. ⌜ r ≡ record { number = number; first = first; second = second; count = 0; end = end; serial = serial } ⌝ }
+{
+    Reply {
+        number: number,
+        first: first,
+        second: second,
+        count: 0,
+        end: end,
+        serial: serial,
+    }
+}
+
+fn granted(count: u16, end: usize, serial: u16) -> Reply
+    ensures { λ r. ⌜ r ≡ record { number = 0; first = 0; second = 0; count = count; end = end; serial = serial } ⌝ }
+{
+    Reply {
+        number: 0,
+        first: 0,
+        second: 0,
+        count: count,
+        end: end,
+        serial: serial,
+    }
+}
+
+pub(crate) fn reply(answer: Answer, end: usize, serial: u16) -> Reply
+    ensures { λ r. ⌜ r ≡ replyOf (replyAnswer answer) end serial ⌝ }
+{
+    match answer {
+        Answer::Granted(count) => granted(count, end, serial),
+        Answer::OutOfRange => refused(1, 0, 0, end, serial),
+        Answer::LoneZero(f) => refused(2, f.0, 0, end, serial),
+        Answer::TwoClasses(f, g) => refused(3, f.0, g.0, end, serial),
+        Answer::MatrixLength => refused(4, 0, 0, end, serial),
+        Answer::UnknownLogin => refused(5, 0, 0, end, serial),
+        Answer::UnknownFolder => refused(6, 0, 0, end, serial),
+        Answer::UnknownKind => refused(7, 0, 0, end, serial),
+        Answer::BadCell(f) => refused(8, f.0, 0, end, serial),
+        Answer::BadEnd => refused(9, 0, 0, end, serial),
+        Answer::Rival(f) => refused(20, f.0, 0, end, serial),
+        Answer::Foreign(f) => refused(21, f.0, 0, end, serial),
+        Answer::AtStake(f) => refused(22, f.0, 0, end, serial),
+        Answer::NoRoom => refused(30, 0, 0, end, serial),
+    }
+}
+
+// ---- serials
+
+pub(crate) fn order(o: Order) -> u8
+    ensures { λ r. ⌜ r ≡ number o ⌝ }
+{
+    match o {
+        Order::Same => 0,
+        Order::Earlier => 1,
+        Order::Undecided => 2,
+        Order::Later => 3,
+    }
+}
+
+// ---- packed cells and the log
+
+// An answer and the one value that it carries.
+fn placed(number: u16, value: usize) -> Placed
+    ensures { λ r. ⌜ r ≡ record { number = number; value = value } ⌝ }
+{
+    Placed {
+        number: number,
+        value: value,
+    }
+}
+
+pub(crate) fn packing(p: Packing) -> Placed
+    ensures { λ r. ⌜ r ≡ placedOf (packing p) ⌝ }
+{
+    match p {
+        Packing::Packed => placed(0, 0),
+        Packing::CellAbove(place) => placed(60, place),
+        Packing::Unequal => placed(61, 0),
+    }
+}
+
+pub(crate) fn unpacking(u: Unpacking) -> Placed
+    ensures { λ r. ⌜ r ≡ placedOf (unpacking u) ⌝ }
+{
+    match u {
+        Unpacking::Unpacked => placed(0, 0),
+        Unpacking::UnusedSet => placed(62, 0),
+        Unpacking::Unequal => placed(61, 0),
+    }
+}
+
+// A refusal of the reader and its place.
+fn fault(f: Fault) -> Placed
+    ensures { λ r. ⌜ r ≡ placedOf (faultAnswer f) ⌝ }
+{
+    match f {
+        Fault::PastEnd(place) => placed(50, place),
+        Fault::Cut(place) => placed(51, place),
+        Fault::BadForm(place) => placed(52, place),
+        Fault::OutOfRange(place) => placed(53, place),
+        Fault::BadList(place) => placed(54, place),
+        Fault::OutOfTurn(place) => placed(55, place),
+    }
+}
+
+pub(crate) fn checked(c: Checked) -> Placed
+    ensures { λ r. ⌜ r ≡ placedOf (checkedAnswer c) ⌝ }
+{
+    match c {
+        Checked::Records(n) => placed(0, n),
+        Checked::Refused(f) => fault(f),
+    }
+}
+
+fn entry(e: Entry) -> LogItem
+    ensures { λ r. ⌜ r ≡ itemOf (entryAnswer e) ⌝ }
+{
+    LogItem {
+        number: 0,
+        serial: e.serial,
+        login: e.login.0,
+        folder: e.folder.0,
+        kind: e.kind,
+        answer: e.answer,
+        count: e.count,
+        list: e.list,
+        place: e.next,
+    }
+}
+
+// An item that carries a place alone.
+fn no_record(number: u16, place: usize) -> LogItem
+    ensures { λ r. ⌜ r ≡ placedItem number place ⌝ }
+{
+    LogItem {
+        number: number,
+        serial: 0,
+        login: 0,
+        folder: 0,
+        kind: 0,
+        answer: 0,
+        count: 0,
+        list: 0,
+        place: place,
+    }
+}
+
+pub(crate) fn item(i: Item) -> LogItem
+    ensures { λ r. ⌜ r ≡ itemOf (itemAnswer i) ⌝ }
+{
+    match i {
+        Item::Record(e) => entry(e),
+        Item::End(place) => no_record(1, place),
+        Item::Refused(f) => {
+            let refusal = fault(f);
+            no_record(refusal.number, refusal.value)
+        }
+    }
+}
+
+// A number's answer.
+fn number_at(number: u16, value: u16, place: usize) -> Number
+    ensures { λ r. ⌜ r ≡ record { number = number; value = value; place = place } ⌝ }
+{
+    Number {
+        number: number,
+        value: value,
+        place: place,
+    }
+}
+
+pub(crate) fn decoded(d: Decoded) -> Number
+    ensures { λ r. ⌜ r ≡ numberOf (decodedAnswer d) ⌝ }
+{
+    match d {
+        Decoded::Number { value, next } => number_at(0, value, next),
+        Decoded::Cut(place) => number_at(51, 0, place),
+        Decoded::Bad(place) => number_at(52, 0, place),
+    }
+}

@@ -1,0 +1,232 @@
+/*
+ * Housechervil: the access monitor of a reading room. This is the C face of the static library `housechervil`
+ * (`rt staticlib housechervil` writes target/staticlib/libhousechervil.a, for x86-64). Every function behind it is proved to answer,
+ * and to leave in every buffer lent, exactly what the scope document ("document 01") says, on every input. No call leans on an
+ * earlier check.
+ *
+ * THE HOUSE
+ *   Logins are numbered from 0; there are P of them, 1 to 128. Folders are numbered from 0; there are F of them, 1 to 512.
+ *   The register gives each folder a class and a client, 0 to 65,535, in two lists in folder order. Client 0 with class 0 marks a
+ *   sanitised folder; neither 0 may stand without the other. Two folders of one client have one class.
+ *   The matrix has P times F bytes, login by login. A cell is 0 for no right, 1 for read, 2 for write, 3 for both; blank is all 0.
+ *   The log is a lent buffer with an end, the place where the next record goes: 0 in an empty log.
+ *   Serials number the records; the caller gives the first, and each reply gives the next. After 65,535 comes 0.
+ *
+ * POINTERS
+ *   A list or a buffer is a pointer and its length in elements. The library reads a const one, writes into the others only what is
+ *   said below, keeps no pointer, allocates nothing and needs less than 8 KiB of stack. It has no state: calls may run at the same
+ *   time unless one of them writes a buffer that another uses.
+ *   A length may be 0, and then nothing is read or written through the pointer. Pass a pointer that is not null and is aligned
+ *   even then (any object of the element's type will do): compiled code may assume it.
+ *   A buffer that is written overlaps with no other list or buffer of the same call. No length is above PTRDIFF_MAX bytes.
+ *
+ * ANSWERS
+ *   `number` is document 01's number of the answer. Values that an answer does not carry are 0. Everywhere a refusal changes no
+ *   byte, unless its text says so.
+ */
+#ifndef HOUSECHERVIL_H
+#define HOUSECHERVIL_H
+
+#include <stddef.h>
+#include <stdint.h>
+
+#define HC_LOGINS_MAX 128   /* the most logins */
+#define HC_FOLDERS_MAX 512  /* the most folders */
+#define HC_MATRIX_MAX 65536 /* the bytes of the largest matrix */
+#define HC_RECORD_MAX 904   /* the bytes of the longest record: with this much room left a request is never answered 30 */
+
+#ifdef __cplusplus
+extern "C" {
+#endif
+
+/* ---- the register */
+
+/*
+ * The register check. Checks run from top to bottom; the first that fails speaks.
+ *
+ *   number  when                                                            first, second
+ *   0       the register is accepted
+ *   1       P or F beyond its range, or lists of unequal length
+ *   2       exactly one of class and client is 0                            the first such folder
+ *   3       a client has two classes                                        the first folder that differs from an earlier one of
+ *                                                                           its client, and the first such earlier one
+ *
+ * Refusal 2 is sought through the whole register before 3.
+ */
+typedef struct {
+    uint16_t number, first, second;
+} hc_register_answer;
+
+hc_register_answer hc_register_check(size_t logins, const uint16_t *classes, size_t classes_len, const uint16_t *clients,
+                                     size_t clients_len);
+
+/* ---- the request */
+
+/*
+ * A request of `login` for `folder`. The kinds are 1 read, 2 careful read, 3 write, 4 read and write.
+ *
+ *   Rival: a folder that the login may read, of the asked folder's class and of another client.
+ *   Foreign: a folder that the login may read, not sanitised, whose client is not the asked folder's.
+ *   At stake: a folder that the login may write, whose client is not the asked folder's; there are none if that is sanitised.
+ *
+ *   kind  granted if there is            on a grant
+ *   1     no rival                       read is entered; write is removed from every folder at stake
+ *   2     no rival, nothing at stake     read is entered
+ *   3     no rival, no foreign           write is entered
+ *   4     no rival, no foreign           as kind 1, then write is entered
+ *
+ * Checks run from top to bottom; the first that fails speaks. A folder carried is always the smallest number that fits.
+ *
+ *   number  when                                                            carries
+ *   0       granted                                                         count: how many write rights were taken back
+ *   1       P or F beyond its range, or lists of unequal length
+ *   2       exactly one of class and client is 0                            first: the first such folder
+ *   3       a client has two classes                                        first, second: as the register check
+ *   4       the matrix's length is not P times F
+ *   5       login is P or more
+ *   6       folder is F or more
+ *   7       kind is not 1 to 4
+ *   8       a cell of this login's row exceeds 3                            first: its folder
+ *   9       the log's end lies past its buffer
+ *   20      a rival exists                                                  first: it
+ *   21      kind 3 or 4, a foreign folder exists                            first: it
+ *   22      kind 2, a folder is at stake                                    first: it
+ *   30      the record is longer than the room left; it speaks in place
+ *           of a grant, 20, 21 or 22, and the decision is not told
+ *
+ * `end` and `serial` are the log's new end and the next serial: hand them to the next request.
+ *   0             changes the login's row of the matrix and appends a record to the log
+ *   20, 21, 22    leave the matrix and append a record
+ *   1 to 9, 30    change no byte, and return end and serial as they came
+ * Log bytes outside the new record stay.
+ */
+typedef struct {
+    uint16_t number, first, second, count;
+    size_t end;
+    uint16_t serial;
+} hc_reply;
+
+hc_reply hc_request(size_t logins, const uint16_t *classes, size_t classes_len, const uint16_t *clients, size_t clients_len,
+                    uint8_t *matrix, size_t matrix_len, uint16_t login, uint16_t folder, uint16_t kind, uint8_t *log, size_t log_len,
+                    size_t end, uint16_t serial);
+
+/* ---- serials */
+
+/* The serial after this one: after 65,535 comes 0. */
+uint16_t hc_serial_next(uint16_t serial);
+
+/*
+ * Two serials compared by the way from the first to the second, counted round 65,536.
+ *
+ *   0   same                 the way is 0
+ *   1   first is earlier     1 to 32,767
+ *   2   undecided            32,768
+ *   3   first is later       more
+ */
+uint8_t hc_serial_compare(uint16_t first, uint16_t second);
+
+/* ---- packed copies of cells */
+
+/* An answer and the place, or the number of records, that it carries. */
+typedef struct {
+    uint16_t number;
+    size_t value;
+} hc_placed;
+
+/*
+ * Packs cells, four in a byte, the first in the lowest two bits, unused bits of the last byte 0. The packed form's length is one
+ * quarter of the cells' number, rounded up; a list of 0 cells has 0 bytes.
+ *
+ *   number  when                              value
+ *   0       packed: all of `packed` is written
+ *   61      the lengths don't match
+ *   60      a cell is above 3                 the place of the first such cell
+ */
+hc_placed hc_pack(const uint8_t *cells, size_t cells_len, uint8_t *packed, size_t packed_len);
+
+/*
+ * Unpacks `cells_len` cells. Packing and unpacking undo each other on all they accept.
+ *
+ *   number  when
+ *   0       unpacked: all of `cells` is written
+ *   61      the lengths don't match
+ *   62      unused bits of the last byte are set
+ */
+hc_placed hc_unpack(const uint8_t *packed, size_t packed_len, uint8_t *cells, size_t cells_len);
+
+/* ---- the log */
+
+/*
+ * A step of the log reader at a place: a record, the end or a refusal. `log_len` is the log's end, not its buffer's length. Start
+ * at 0; only a record moves the reader, to its `place`.
+ *
+ *   number  when                                                            place
+ *   0       a record                                                        the byte after it
+ *   1       the end: place is log_len                                       log_len
+ *   50      place is past the end                                           the reader's place
+ *   51      bytes end inside the record                                     the first byte of the field at fault
+ *   52      a number not in its shortest form, or above 65,535              the same
+ *   53      login above 127, a folder above 511, kind not 1 to 4,
+ *           an answer its kind cannot have                                  the same
+ *   54      count is not 1 on a refusal, not 0 on a grant of kind 2 or 3,
+ *           or above 511; the list does not rise, or lists the record's
+ *           own folder                                                      the same
+ *
+ * Fields are judged in their order, and byte by byte, so the first fault met speaks. A record gives serial, login, folder, kind,
+ * answer (0, 20, 21 or 22), and its list as `count` and `list`, the place of the first listed number, from which hc_number_read
+ * walks. After a grant the list has the folders that lost a write right, rising; after a refusal the folder carried.
+ */
+typedef struct {
+    uint16_t number, serial, login, folder, kind, answer, count;
+    size_t list, place;
+} hc_log_item;
+
+hc_log_item hc_log_step(const uint8_t *log, size_t log_len, size_t place);
+
+/*
+ * The whole-log check.
+ *
+ *   number    when                                                          value
+ *   0         every record is accepted, in its turn                         the number of records; an empty log has none
+ *   51 to 54  as for a step                                                 the first byte of the field at fault
+ *   55        a serial is not the one after its predecessor's               the record's start
+ */
+hc_placed hc_log_check(const uint8_t *log, size_t log_len);
+
+/*
+ * The number at a place: groups of seven bits, lowest group first, one byte a group, the byte's top bit set if another follows.
+ *
+ *   number  when                                                            value           place
+ *   0       the number is read                                              it              the byte after it
+ *   51      the bytes end inside it, or the place is past the end           0               its first byte
+ *   52      not the shortest form, or above 65,535                          0               its first byte
+ */
+typedef struct {
+    uint16_t number, value;
+    size_t place;
+} hc_number;
+
+hc_number hc_number_read(const uint8_t *log, size_t log_len, size_t place);
+
+/* ---- the sizes that the compiled library has */
+
+#ifdef __cplusplus
+#define HC_STATIC_ASSERT static_assert
+#else
+#define HC_STATIC_ASSERT _Static_assert
+#endif
+
+HC_STATIC_ASSERT(sizeof(size_t) == 8, "the library is built for a size_t of 8 bytes");
+HC_STATIC_ASSERT(sizeof(hc_register_answer) == 6, "the size of hc_register_answer");
+HC_STATIC_ASSERT(sizeof(hc_reply) == 24, "the size of hc_reply");
+HC_STATIC_ASSERT(sizeof(hc_placed) == 16, "the size of hc_placed");
+HC_STATIC_ASSERT(sizeof(hc_log_item) == 32, "the size of hc_log_item");
+HC_STATIC_ASSERT(sizeof(hc_number) == 16, "the size of hc_number");
+
+#undef HC_STATIC_ASSERT
+
+#ifdef __cplusplus
+}
+#endif
+
+#endif
