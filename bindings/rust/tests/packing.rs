@@ -84,9 +84,9 @@ fn cells_above_three() {
         for place in 0..len {
             let mut content = cells(&mut random, len);
             content[place] = random.pick(&[4, 5, 8, 16, 64, 127, 128, 252, 255]);
-            for later in place + 1..len {
+            for later in &mut content[place + 1..] {
                 if random.once_in(10) {
-                    content[later] = random.byte();
+                    *later = random.byte();
                 }
             }
             let plain = Guarded::new(&mut random, &content);
