@@ -59,7 +59,7 @@
 //! A folder number, a client number, a class number and a login number are four types, so that one given in another's place does
 //! not build:
 //!
-//! ```compile_fail
+//! ```compile_fail,E0308
 //! use housechervil::{ClassNo, ClientNo, Register};
 //! let classes = [ClassNo(1)];
 //! let clients = [ClientNo(1)];

@@ -72,7 +72,7 @@ const LENGTHS: &str = "the packed length is not one quarter of the cells, rounde
 
 /// The packed length of so many cells: one quarter of them, rounded up.
 pub const fn packed_len(cells: usize) -> usize {
-    cells.div_ceil(4)
+    cells / 4 + (cells % 4 != 0) as usize
 }
 
 /// Packs cells, four in a byte, the first in the lowest two bits. A refusal leaves `packed` as it was.

@@ -1,5 +1,7 @@
 //! The C interface, as `include/housechervil.h` declares it. Nothing outside this crate sees it.
 
+use std::mem::size_of;
+
 /// The answer of the register check.
 #[repr(C)]
 #[derive(Clone, Copy, Debug, PartialEq, Eq)]

@@ -15,11 +15,17 @@ fn push(log: &mut Vec<u8>, number: u16) {
 
 /// A rising list of `count` folders without `own`.
 fn rising(random: &mut Random, count: usize, own: u16) -> Vec<u16> {
-    let mut others: Vec<u16> = (0..512).filter(|&folder| folder != own).collect();
-    while others.len() > count {
-        others.remove(random.below(others.len()));
+    let mut list = Vec::with_capacity(count);
+    for (passed, folder) in (0..512).filter(|&folder| folder != own).enumerate() {
+        // Each folder is taken with just the chance that leaves `count` of them in the end.
+        if random.below(511 - passed) < count - list.len() {
+            list.push(folder);
+        }
+        if list.len() == count {
+            break;
+        }
     }
-    others
+    list
 }
 
 /// A record that a request could have written.
@@ -352,8 +358,6 @@ fn long_logs() {
         let mut damaged = log.clone();
         let byte = random.below(log.len());
         damaged[byte] = random.byte();
-        let _ =
-            reference::check_log(&damaged).map_err(|fault| assert!(fault.place > 65_536 || fault.place <= log.len()));
         same_log_check(&damaged).ok();
     }
 }

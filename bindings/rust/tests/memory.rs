@@ -4,7 +4,8 @@
 mod reference;
 mod support;
 
-use std::ffi::{c_int, c_void};
+use std::mem::size_of;
+use std::os::raw::{c_int, c_void};
 use std::ptr::null_mut;
 
 use reference::{Ask, House};
@@ -36,7 +37,7 @@ enum Side {
 
 impl Fenced {
     fn new(len: usize) -> Fenced {
-        let inside = len.next_multiple_of(PAGE).max(PAGE);
+        let inside = (len / PAGE + 1) * PAGE;
         // SAFETY: a new mapping, of which the first and the last page are closed.
         unsafe {
             let map = mmap(null_mut(), inside + 2 * PAGE, READ_WRITE, PRIVATE_ANONYMOUS, -1, 0).cast::<u8>();
@@ -139,7 +140,7 @@ fn packing() {
         let content: Vec<u8> = (0..len).map(|_| random.byte() & 3).collect();
         for side in SIDES {
             let cells = plain.hold(&content, side);
-            let bytes = packed.slice::<u8>(usize::div_ceil(len, 4), side);
+            let bytes = packed.slice::<u8>(reference::packed_len(len), side);
             assert_eq!(housechervil::pack_into(cells, bytes), Ok(()));
             cells.fill(9);
             assert_eq!(housechervil::unpack_into(bytes, cells), Ok(()));

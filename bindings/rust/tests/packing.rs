@@ -3,6 +3,7 @@
 mod reference;
 mod support;
 
+use reference::packed_len;
 use support::{same_pack, same_unpack, Guarded, Random, Tally};
 
 fn cells(random: &mut Random, len: usize) -> Vec<u8> {
@@ -13,7 +14,7 @@ fn cells(random: &mut Random, len: usize) -> Vec<u8> {
 fn round_trip(random: &mut Random, len: usize) {
     let content = cells(random, len);
     let plain = Guarded::new(random, &content);
-    let content = random.bytes(len.div_ceil(4));
+    let content = random.bytes(packed_len(len));
     let mut packed = Guarded::new(random, &content);
     assert_eq!(same_pack(&plain, &mut packed), (0, 0));
     let content = random.bytes(len);
@@ -22,7 +23,7 @@ fn round_trip(random: &mut Random, len: usize) {
     assert_eq!(back.inner(), plain.inner());
 
     // Any bytes at all, but for the unused bits of the last one.
-    let mut content = random.bytes(len.div_ceil(4));
+    let mut content = random.bytes(packed_len(len));
     if len % 4 != 0 {
         *content.last_mut().unwrap() &= (1 << (2 * (len % 4))) - 1;
     }
@@ -56,9 +57,9 @@ fn all_lengths() {
 #[test]
 fn wrong_lengths() {
     let mut random = Random::new(41);
-    for cells in 0..=40_usize {
+    for cells in 0..=40 {
         for bytes in 0..=14 {
-            let right = bytes == cells.div_ceil(4);
+            let right = bytes == packed_len(cells);
             let plain = Guarded::new(&mut random, &vec![if right { 2 } else { 4 }; cells]);
             let mut packed = Guarded::new(&mut random, &vec![0xff; bytes]);
             assert_eq!(same_pack(&plain, &mut packed), (if right { 0 } else { 61 }, 0));
@@ -90,7 +91,7 @@ fn cells_above_three() {
                 }
             }
             let plain = Guarded::new(&mut random, &content);
-            let mut packed = Guarded::new(&mut random, &vec![0x5a; len.div_ceil(4)]);
+            let mut packed = Guarded::new(&mut random, &vec![0x5a; packed_len(len)]);
             assert_eq!(same_pack(&plain, &mut packed), (60, place));
             assert!(packed.inner().iter().all(|&byte| byte == 0x5a));
         }
@@ -122,7 +123,7 @@ fn unused_bits() {
     let mut tally = Tally::default();
     for len in (1..=12).chain([253, 254, 255, 256]) {
         for last in 0..=255 {
-            let mut content = random.bytes(usize::div_ceil(len, 4));
+            let mut content = random.bytes(packed_len(len));
             *content.last_mut().unwrap() = last;
             let packed = Guarded::new(&mut random, &content);
             let mut plain = Guarded::new(&mut random, &vec![9; len]);
@@ -139,12 +140,12 @@ fn unused_bits() {
 /// The owning forms.
 #[test]
 fn owned() {
-    use housechervil::{pack, packed_len, unpack, PackError, UnpackError};
+    use housechervil::{pack, unpack, PackError, UnpackError};
     let mut random = Random::new(44);
     for len in 0..100 {
         let plain = cells(&mut random, len);
         let packed = pack(&plain).unwrap();
-        assert_eq!(packed.len(), packed_len(len));
+        assert_eq!((packed.len(), housechervil::packed_len(len)), (packed_len(len), packed_len(len)));
         assert_eq!(unpack(&packed, len), Ok(plain));
     }
     assert_eq!(pack(&[0, 1, 4, 5]), Err(PackError::Cell { place: 2 }));

@@ -236,7 +236,7 @@ fn long_sessions() {
     let mut wrapped = 0;
     for round in 0..60 {
         let (logins, folders, requests) = match round {
-            0..4 => (128, 512, 400),
+            0..=3 => (128, 512, 400),
             _ => (random.range(1, 12), random.range(1, 40), 1_500),
         };
         let clients = random.pick(&[2, 5, 20, 64]);

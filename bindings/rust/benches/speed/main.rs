@@ -5,6 +5,9 @@
 //! Before anything is timed, the contenders are seen to give one answer and to leave the same bytes. The library is called through
 //! the safe crate. Everything is built for plain x86-64, as cargo builds without flags.
 
+// `black_box` is a little younger than what the crate itself needs.
+#![allow(clippy::incompatible_msrv)]
+
 #[path = "../../tests/reference/mod.rs"]
 mod reference;
 
