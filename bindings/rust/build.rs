@@ -21,6 +21,7 @@ fn main() {
         Some(named) => PathBuf::from(named),
         None => Path::new(env!("CARGO_MANIFEST_DIR")).join("../../target/staticlib"),
     };
+    let directory = directory.canonicalize().unwrap_or(directory);
     let library = directory.join("libhousechervil.a");
     println!("cargo:rerun-if-changed={}", library.display());
     if !library.is_file() {

@@ -40,6 +40,12 @@
 //! # Ok::<(), Box<dyn std::error::Error>>(())
 //! ```
 //!
+//! # Building
+//!
+//! The build script looks for `libhousechervil.a` in `target/staticlib` at the repository's root, where
+//! `rt staticlib housechervil` puts it, or in the directory that the environment variable `HOUSECHERVIL_LIB_DIR` names. The library
+//! is for x86-64. The crate has no dependencies and builds with Rust 1.63 or later.
+//!
 //! # What there is
 //!
 //! | Task | Here | C |
@@ -85,6 +91,7 @@
 //!   are used only as indices that Rust checks.
 //! - **Layout.** The structs are `repr(C)`, [`ClassNo`] and [`ClientNo`] are `repr(transparent)` around `u16`, and the build stops
 //!   if a struct's size is not that of the C interface on x86-64.
+//! - **Stack.** The library needs less than 8 KiB of it.
 //! - **Threads.** All types are plain data and borrows, so `Send` and `Sync` are the compiler's own conclusions.
 //!
 //! What this rests on: that the library linked in is the one that `rt staticlib housechervil` makes.
