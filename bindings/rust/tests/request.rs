@@ -227,10 +227,10 @@ fn first_fault_speaks() {
     assert_eq!(answers, [1, 2, 3, 4, 5, 6, 7, 8, 8, 9, 30, 20]);
 }
 
-/// Long sessions, each request on what the one before it left, with serials that go round past 65,535; the log is read back field
+/// Long runs of requests, each on what the one before it left, with serials that go round past 65,535; the log is read back field
 /// by field and equals what was asked and answered.
 #[test]
-fn long_sessions() {
+fn long_runs() {
     let mut random = Random::new(16);
     let mut tally = Tally::default();
     let mut wrapped = 0;
