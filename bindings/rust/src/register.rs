@@ -1,0 +1,128 @@
+//! The register and its check.
+
+use std::error::Error;
+use std::fmt;
+
+use crate::{ruled_out, sys, ClassNo, ClientNo, FolderNo};
+
+/// A register, lent: the number of logins, and one class and one client for each folder.
+///
+/// Making one checks nothing; [`check`](Register::check) does, and every [`request`](Register::request) does again.
+#[derive(Clone, Copy, Debug, PartialEq, Eq)]
+pub struct Register<'a> {
+    /// The number of logins, P: 1 to 128 in a good register.
+    pub logins: usize,
+    /// Each folder's class: 1 to 512 folders in a good register.
+    pub classes: &'a [ClassNo],
+    /// Each folder's client, in the same order and of the same number.
+    pub clients: &'a [ClientNo],
+}
+
+impl<'a> Register<'a> {
+    /// The register of these logins and these folders, as it comes.
+    pub const fn new(logins: usize, classes: &'a [ClassNo], clients: &'a [ClientNo]) -> Register<'a> {
+        Register { logins, classes, clients }
+    }
+
+    /// The register check.
+    ///
+    /// ```
+    /// use housechervil::{ClassNo, ClientNo, FolderNo, Register, RegisterError};
+    ///
+    /// let register = Register::new(1, &[ClassNo(1), ClassNo(2)], &[ClientNo(4), ClientNo(4)]);
+    /// let error = register.check().unwrap_err();
+    /// assert_eq!(error, RegisterError::TwoClasses { folder: FolderNo(1), earlier: FolderNo(0) });
+    /// assert_eq!(error.number(), 3);
+    /// ```
+    ///
+    /// # Errors
+    ///
+    /// The first that fits of document 01's refusals 1 to 3.
+    #[inline]
+    pub fn check(&self) -> Result<(), RegisterError> {
+        let (classes, clients) = (self.classes, self.clients);
+        // SAFETY: each pointer is its slice's, never null, aligned, and readable for the slice's length; class and client numbers
+        // are `repr(transparent)` around `u16`. The library only reads, has no precondition and keeps no pointer.
+        let answer = unsafe {
+            sys::hc_register_check(
+                self.logins,
+                classes.as_ptr().cast(),
+                classes.len(),
+                clients.as_ptr().cast(),
+                clients.len(),
+            )
+        };
+        match answer.number {
+            0 => Ok(()),
+            number => Err(RegisterError::from_numbers(number, answer.first, answer.second)
+                .unwrap_or_else(|| ruled_out("a register check", number))),
+        }
+    }
+}
+
+/// What is wrong with a register.
+#[derive(Clone, Copy, Debug, PartialEq, Eq, Hash)]
+pub enum RegisterError {
+    /// 1: not 1 to 128 logins, not 1 to 512 folders, or lists of unequal length.
+    Sizes,
+    /// 2: exactly one of class and client is 0.
+    LoneZero {
+        /// The first such folder.
+        folder: FolderNo,
+    },
+    /// 3: a client has two classes.
+    TwoClasses {
+        /// The first folder that differs from an earlier one of its client.
+        folder: FolderNo,
+        /// The first such earlier one.
+        earlier: FolderNo,
+    },
+}
+
+impl RegisterError {
+    /// Document 01's number, 1 to 3.
+    pub const fn number(self) -> u16 {
+        match self {
+            RegisterError::Sizes => 1,
+            RegisterError::LoneZero { .. } => 2,
+            RegisterError::TwoClasses { .. } => 3,
+        }
+    }
+
+    /// The folder carried, if one is.
+    pub const fn folder(self) -> Option<FolderNo> {
+        match self {
+            RegisterError::Sizes => None,
+            RegisterError::LoneZero { folder } | RegisterError::TwoClasses { folder, .. } => Some(folder),
+        }
+    }
+
+    /// The error of these numbers.
+    #[inline]
+    pub(crate) fn from_numbers(number: u16, first: u16, second: u16) -> Option<RegisterError> {
+        match number {
+            1 => Some(RegisterError::Sizes),
+            2 => Some(RegisterError::LoneZero { folder: FolderNo(first) }),
+            3 => Some(RegisterError::TwoClasses { folder: FolderNo(first), earlier: FolderNo(second) }),
+            _ => None,
+        }
+    }
+}
+
+impl fmt::Display for RegisterError {
+    fn fmt(&self, f: &mut fmt::Formatter<'_>) -> fmt::Result {
+        match self {
+            RegisterError::Sizes => f.write_str(
+                "the register must have 1 to 128 logins, 1 to 512 folders, and a class and a client for each",
+            ),
+            RegisterError::LoneZero { folder } => {
+                write!(f, "folder {folder} has exactly one of class and client 0")
+            }
+            RegisterError::TwoClasses { folder, earlier } => {
+                write!(f, "folder {folder} has the client of folder {earlier} and another class")
+            }
+        }
+    }
+}
+
+impl Error for RegisterError {}

@@ -1,0 +1,98 @@
+//! Lengths of 0, everywhere through the safe crate: answered, not touched.
+
+use housechervil::{
+    check_log, pack, pack_into, packed_len, read_number, read_record, unpack, unpack_into, ClassNo, ClientNo, FolderNo,
+    Kind, KindNo, LogFault, LoginNo, PackError, Records, Refusal, Register, RegisterError, Request, Room, Serial,
+    UnpackError,
+};
+
+#[test]
+fn empty_register() {
+    assert_eq!(Register::new(1, &[], &[]).check(), Err(RegisterError::Sizes));
+    assert_eq!(Register::new(0, &[], &[]).check(), Err(RegisterError::Sizes));
+    assert_eq!(Register::new(1, &[], &[ClientNo(1)]).check(), Err(RegisterError::Sizes));
+    assert_eq!(Register::new(1, &[ClassNo(1)], &[]).check(), Err(RegisterError::Sizes));
+    assert_eq!(Register::new(0, &[ClassNo(1)], &[ClientNo(1)]).check(), Err(RegisterError::Sizes));
+    assert_eq!(ClassNo::from_slice(&[]), []);
+    assert_eq!(ClientNo::from_slice(&[]), []);
+    assert!(Room::new(1, &[], 10, Serial(0)).is_err());
+    assert!(Room::new(0, &[(ClassNo(1), ClientNo(1))], 10, Serial(0)).is_err());
+}
+
+#[test]
+fn empty_buffers_of_a_request() {
+    let request = Request::new(LoginNo(0), FolderNo(0), Kind::Read);
+    let unmoved = |reply: housechervil::Reply, end: usize, refusal: Refusal| {
+        assert_eq!(reply.answer, Err(refusal));
+        assert_eq!((reply.end, reply.serial), (end, Serial(9)));
+    };
+
+    // Nothing at all.
+    let nobody = Register::new(0, &[], &[]);
+    unmoved(nobody.request(&mut [], request, &mut [], 0, Serial(9)), 0, RegisterError::Sizes.into());
+    unmoved(nobody.request(&mut [], request, &mut [], usize::MAX, Serial(9)), usize::MAX, RegisterError::Sizes.into());
+
+    // A good register with an empty matrix, with an empty log, with both.
+    let (classes, clients) = ([ClassNo(1)], [ClientNo(1)]);
+    let one = Register::new(1, &classes, &clients);
+    let mut log = [7; 32];
+    unmoved(one.request(&mut [], request, &mut log, 0, Serial(9)), 0, Refusal::MatrixLength);
+    unmoved(one.request(&mut [], request, &mut [], 0, Serial(9)), 0, Refusal::MatrixLength);
+    assert_eq!(log, [7; 32]);
+
+    // An empty slice in the middle of bytes that must not change.
+    let mut bytes = [0xa5_u8; 64];
+    let empty = &mut bytes[32..32];
+    let mut matrix = [0];
+    unmoved(one.request(&mut matrix, request, empty, 0, Serial(9)), 0, Refusal::LogFull);
+    unmoved(one.request(&mut matrix, request, empty, 1, Serial(9)), 1, Refusal::LogEnd);
+    unmoved(one.request(&mut matrix, request, empty, usize::MAX, Serial(9)), usize::MAX, Refusal::LogEnd);
+    assert_eq!(matrix, [0]);
+    assert_eq!(bytes, [0xa5; 64]);
+
+    // An empty log hides the decision, but not what comes before the wall.
+    let strange = Request { login: LoginNo(0), folder: FolderNo(0), kind: KindNo(0) };
+    unmoved(one.request(&mut matrix, strange, &mut [], 0, Serial(9)), 0, Refusal::Kind);
+}
+
+#[test]
+fn empty_room_for_a_log() {
+    let mut room = Room::new(1, &[(ClassNo(1), ClientNo(1))], 0, Serial(5)).unwrap();
+    assert_eq!(room.ask(LoginNo(0), FolderNo(0), Kind::Read), Err(Refusal::LogFull));
+    assert_eq!((room.log(), room.log_left(), room.next_serial()), (&[][..], 0, Serial(5)));
+    assert!(room.records().next().is_none());
+    assert!(room.last_record().is_none());
+    assert_eq!(room.matrix(), [0]);
+}
+
+#[test]
+fn empty_log() {
+    assert_eq!(check_log(&[]), Ok(0));
+    assert!(matches!(read_record(&[], 0), Ok(None)));
+    assert!(matches!(read_record(&[], 1), Err(LogFault::PastEnd { place: 1 })));
+    assert!(matches!(read_record(&[], usize::MAX), Err(LogFault::PastEnd { place: usize::MAX })));
+    assert_eq!(read_number(&[], 0), Err(LogFault::CutShort { place: 0 }));
+    assert_eq!(read_number(&[], usize::MAX), Err(LogFault::CutShort { place: usize::MAX }));
+    let mut reader = Records::new(&[]);
+    assert!(reader.next().is_none());
+    assert!(reader.next().is_none());
+    assert!(matches!(reader.step(), Ok(None)));
+    assert_eq!(reader.place(), 0);
+}
+
+#[test]
+fn empty_cells() {
+    // An empty slice in the middle of bytes that must not change.
+    let mut bytes = [0xa5_u8; 64];
+    let empty = &mut bytes[32..32];
+    assert_eq!(packed_len(0), 0);
+    assert_eq!(pack(&[]), Ok(vec![]));
+    assert_eq!(unpack(&[], 0), Ok(vec![]));
+    assert_eq!(pack_into(&[], empty), Ok(()));
+    assert_eq!(unpack_into(&[], empty), Ok(()));
+    assert_eq!(pack_into(&[1], empty), Err(PackError::Lengths));
+    assert_eq!(unpack_into(&[1], empty), Err(UnpackError::Lengths));
+    assert_eq!(pack_into(&[], &mut [1]), Err(PackError::Lengths));
+    assert_eq!(unpack_into(&[], &mut [1]), Err(UnpackError::Lengths));
+    assert_eq!(bytes, [0xa5; 64]);
+}

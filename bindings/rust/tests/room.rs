@@ -1,0 +1,182 @@
+//! The safe crate's own types: numbers, words, and the room.
+
+use std::error::Error;
+
+use housechervil::{
+    ClassNo, ClientNo, FolderNo, Granted, Kind, LogFault, LoginNo, PackError, Refusal, RegisterError, Rights, Room,
+    Serial, UnknownKind, UnpackError, Verdict,
+};
+
+const FOLDER: FolderNo = FolderNo(7);
+
+/// Every answer has document 01's number, and words of its own.
+#[test]
+fn numbers_and_words() {
+    let register = [
+        RegisterError::Sizes,
+        RegisterError::LoneZero { folder: FOLDER },
+        RegisterError::TwoClasses { folder: FOLDER, earlier: FOLDER },
+    ];
+    assert_eq!(register.map(RegisterError::number), [1, 2, 3]);
+    assert_eq!(register.map(RegisterError::folder), [None, Some(FOLDER), Some(FOLDER)]);
+
+    let refusals = [
+        Refusal::MatrixLength,
+        Refusal::Login,
+        Refusal::Folder,
+        Refusal::Kind,
+        Refusal::Cell { folder: FOLDER },
+        Refusal::LogEnd,
+        Refusal::Rival { folder: FOLDER },
+        Refusal::Foreign { folder: FOLDER },
+        Refusal::AtStake { folder: FOLDER },
+        Refusal::LogFull,
+    ];
+    assert_eq!(refusals.map(Refusal::number), [4, 5, 6, 7, 8, 9, 20, 21, 22, 30]);
+    for refusal in refusals {
+        assert_eq!(refusal.folder().is_some(), [8, 20, 21, 22].contains(&refusal.number()));
+        assert_eq!(refusal.is_logged(), [20, 21, 22].contains(&refusal.number()));
+        assert!(refusal.source().is_none());
+    }
+    for error in register {
+        let refusal = Refusal::from(error);
+        assert_eq!((refusal.number(), refusal.folder()), (error.number(), error.folder()));
+        assert!(refusal.source().is_some() && !refusal.is_logged());
+        assert_eq!(refusal.to_string(), error.to_string());
+    }
+
+    let faults = [
+        LogFault::PastEnd { place: 3 },
+        LogFault::CutShort { place: 3 },
+        LogFault::Form { place: 3 },
+        LogFault::Range { place: 3 },
+        LogFault::List { place: 3 },
+        LogFault::Serial { place: 3 },
+    ];
+    assert_eq!(faults.map(LogFault::number), [50, 51, 52, 53, 54, 55]);
+    assert_eq!(faults.map(LogFault::place), [3; 6]);
+
+    assert_eq!([PackError::Cell { place: 3 }, PackError::Lengths].map(PackError::number), [60, 61]);
+    assert_eq!([UnpackError::Lengths, UnpackError::UnusedBits].map(UnpackError::number), [61, 62]);
+    assert_eq!(Granted { taken_back: 3 }.number(), 0);
+    let verdicts = [Verdict::Granted, Verdict::Rival, Verdict::Foreign, Verdict::AtStake];
+    assert_eq!(verdicts.map(Verdict::number), [0, 20, 21, 22]);
+
+    let mut words: Vec<String> = register.iter().map(ToString::to_string).collect();
+    words.extend(refusals.iter().map(ToString::to_string));
+    words.extend(faults.iter().map(ToString::to_string));
+    words.extend(verdicts.iter().map(ToString::to_string));
+    words.extend([PackError::Cell { place: 3 }, PackError::Lengths].iter().map(ToString::to_string));
+    words.push(UnpackError::UnusedBits.to_string());
+    let all = words.len();
+    words.sort();
+    words.dedup();
+    assert_eq!(words.len(), all);
+    assert!(words.iter().all(|words| words.len() > 5));
+}
+
+#[test]
+fn kinds_and_rights() {
+    assert_eq!(Kind::ALL.map(Kind::number), [1, 2, 3, 4]);
+    for kind in Kind::ALL {
+        assert_eq!(Kind::try_from(kind.number()), Ok(kind));
+    }
+    for number in [0, 5, 65_535] {
+        assert_eq!(Kind::try_from(number), Err(UnknownKind(number)));
+    }
+    for cell in 0..=255 {
+        match Rights::from_cell(cell) {
+            Some(rights) => assert!(cell < 4 && rights.cell() == cell),
+            None => assert!(cell > 3),
+        }
+    }
+    assert_eq!(Rights { read: true, write: false }.cell(), 1);
+    assert_eq!(Rights { read: false, write: true }.cell(), 2);
+}
+
+/// A room keeps matrix, log and serial from one request to the next, and a refusal that is not logged leaves them.
+#[test]
+fn a_room() {
+    let labels = [(1, 1), (1, 2), (2, 3)].map(|(class, client)| (ClassNo(class), ClientNo(client)));
+    let mut room = Room::new(2, &labels, 21, Serial(65_535)).unwrap();
+    let (ann, ben) = (LoginNo(0), LoginNo(1));
+    assert!(room.last_record().is_none());
+
+    assert_eq!(room.ask(ann, FolderNo(0), Kind::Read), Ok(Granted { taken_back: 0 }));
+    assert_eq!(room.next_serial(), Serial(0));
+    assert_eq!(room.ask(ann, FolderNo(1), Kind::Read), Err(Refusal::Rival { folder: FolderNo(0) }));
+    assert_eq!(room.rights(ann, FolderNo(0)), Some(Rights { read: true, write: false }));
+    assert_eq!(room.rights(ann, FolderNo(1)), Some(Rights::default()));
+    assert_eq!(room.rights(ben, FolderNo(0)), Some(Rights::default()));
+    assert_eq!(room.rights(ben, FolderNo(3)), None);
+    assert_eq!(room.rights(LoginNo(2), FolderNo(0)), None);
+
+    let before = room.clone();
+    for (login, folder, refusal) in [(2, 0, Refusal::Login), (0, 3, Refusal::Folder), (65_535, 65_535, Refusal::Login)]
+    {
+        assert_eq!(room.ask(LoginNo(login), FolderNo(folder), Kind::Write), Err(refusal));
+    }
+    assert_eq!(room.matrix(), before.matrix());
+    assert_eq!(room.log(), before.log());
+    assert_eq!(room.next_serial(), before.next_serial());
+    assert_eq!(room.last_record().unwrap().verdict(), Verdict::Rival);
+
+    // 8 and 7 bytes are written; 6 are left, which a record without a list fits, and then none.
+    assert_eq!(room.log_left(), 6);
+    assert_eq!(room.ask(ann, FolderNo(1), Kind::Read), Err(Refusal::LogFull));
+    assert_eq!(room.ask(ben, FolderNo(1), Kind::Write), Ok(Granted { taken_back: 0 }));
+    assert_eq!(room.log_left(), 0);
+    assert_eq!(room.ask(ben, FolderNo(2), Kind::Write), Err(Refusal::LogFull));
+    let serials: Vec<Serial> = room.records().map(|record| record.unwrap().serial()).collect();
+    assert_eq!(serials, [Serial(65_535), Serial(0), Serial(1)]);
+    assert_eq!(housechervil::check_log(room.log()), Ok(3));
+    assert_eq!(room.register().check(), Ok(()));
+    assert!(format!("{:?}", room.last_record().unwrap()).contains("Granted"));
+
+    // A nightly copy and back.
+    let packed = housechervil::pack(room.matrix()).unwrap();
+    assert_eq!(packed.len(), 2);
+    assert_eq!(housechervil::unpack(&packed, room.matrix().len()).unwrap(), room.matrix());
+}
+
+/// Bad registers never make a room.
+#[test]
+fn bad_registers() {
+    let label = |class, client| (ClassNo(class), ClientNo(client));
+    let error = |logins, labels: &[_]| Room::new(logins, labels, 100, Serial(0)).unwrap_err();
+    assert_eq!(error(129, &[label(1, 1)]), RegisterError::Sizes);
+    assert_eq!(error(usize::MAX, &[label(1, 1)]), RegisterError::Sizes);
+    assert_eq!(error(1, &vec![label(1, 1); 513]), RegisterError::Sizes);
+    assert_eq!(error(1, &[label(1, 1), label(0, 1)]), RegisterError::LoneZero { folder: FolderNo(1) });
+    let two = RegisterError::TwoClasses { folder: FolderNo(1), earlier: FolderNo(0) };
+    assert_eq!(error(1, &[label(1, 4), label(2, 4)]), two);
+}
+
+/// All of it is plain data: it can be handed to and shared between threads.
+#[test]
+fn threads() {
+    fn sendable<T: Send + Sync>() {}
+    sendable::<Room>();
+    sendable::<housechervil::Register<'static>>();
+    sendable::<housechervil::Records<'static>>();
+    sendable::<housechervil::Record<'static>>();
+    sendable::<Refusal>();
+
+    let labels = [(ClassNo(1), ClientNo(1)), (ClassNo(1), ClientNo(2))];
+    let answers: Vec<_> = std::thread::scope(|scope| {
+        let rooms: Vec<_> = (0..4)
+            .map(|_| {
+                scope.spawn(|| {
+                    let mut room = Room::new(1, &labels, 65_536, Serial(0)).unwrap();
+                    for _ in 0..5_000 {
+                        let _ = room.ask(LoginNo(0), FolderNo(0), Kind::Read);
+                        let _ = room.ask(LoginNo(0), FolderNo(1), Kind::Read);
+                    }
+                    room.log().to_vec()
+                })
+            })
+            .collect();
+        rooms.into_iter().map(|room| room.join().unwrap()).collect()
+    });
+    assert!(answers.windows(2).all(|two| two[0] == two[1]));
+}

@@ -1,0 +1,414 @@
+//! What the tests share: a small generator of numbers, buffers with guard bytes, houses good and bad, and the calls in which the
+//! library is held against the reference, once through its C interface and once through the safe crate.
+
+#![allow(dead_code)]
+
+use housechervil::{
+    ClassNo, ClientNo, FolderNo, KindNo, LogFault, LoginNo, PackError, Register, Request, Serial, UnpackError,
+};
+
+use crate::reference::{self, Ask, Fault, House, Record, Refusal, Reply};
+
+#[allow(non_camel_case_types)]
+#[path = "../../src/sys.rs"]
+pub mod sys;
+
+// ---------------------------------------------------------------- numbers and buffers
+
+/// A generator of numbers (SplitMix64), the same ones on every run.
+pub struct Random(u64);
+
+impl Random {
+    pub fn new(seed: u64) -> Random {
+        Random(seed)
+    }
+
+    pub fn next(&mut self) -> u64 {
+        self.0 = self.0.wrapping_add(0x9e37_79b9_7f4a_7c15);
+        let z = (self.0 ^ (self.0 >> 30)).wrapping_mul(0xbf58_476d_1ce4_e5b9);
+        let z = (z ^ (z >> 27)).wrapping_mul(0x94d0_49bb_1331_11eb);
+        z ^ (z >> 31)
+    }
+
+    /// A number below `bound`.
+    pub fn below(&mut self, bound: usize) -> usize {
+        ((u128::from(self.next()) * bound as u128) >> 64) as usize
+    }
+
+    /// A number from `low` to `high`, both included.
+    pub fn range(&mut self, low: usize, high: usize) -> usize {
+        low + self.below(high - low + 1)
+    }
+
+    /// True once in `n` times.
+    pub fn once_in(&mut self, n: usize) -> bool {
+        self.below(n) == 0
+    }
+
+    pub fn pick<T: Copy>(&mut self, from: &[T]) -> T {
+        from[self.below(from.len())]
+    }
+
+    pub fn u16(&mut self) -> u16 {
+        self.next() as u16
+    }
+
+    pub fn byte(&mut self) -> u8 {
+        self.next() as u8
+    }
+
+    pub fn bytes(&mut self, len: usize) -> Vec<u8> {
+        (0..len).map(|_| self.byte()).collect()
+    }
+}
+
+/// A buffer with guard bytes on both sides. Two of them are equal if guards and content are.
+#[derive(Clone, PartialEq, Eq, Debug)]
+pub struct Guarded {
+    bytes: Vec<u8>,
+    from: usize,
+    len: usize,
+}
+
+impl Guarded {
+    /// The content between random guards, of lengths that shift its alignment.
+    pub fn new(random: &mut Random, content: &[u8]) -> Guarded {
+        let from = random.range(32, 63);
+        let mut bytes = random.bytes(from);
+        bytes.extend_from_slice(content);
+        bytes.extend(random.bytes(32));
+        Guarded { bytes, from, len: content.len() }
+    }
+
+    pub fn inner(&self) -> &[u8] {
+        &self.bytes[self.from..][..self.len]
+    }
+
+    pub fn inner_mut(&mut self) -> &mut [u8] {
+        &mut self.bytes[self.from..][..self.len]
+    }
+}
+
+// ---------------------------------------------------------------- houses
+
+/// A register that owns its lists.
+#[derive(Clone, Debug)]
+pub struct Owned {
+    pub logins: usize,
+    pub classes: Vec<u16>,
+    pub clients: Vec<u16>,
+}
+
+impl Owned {
+    pub fn new(logins: usize, labels: &[(u16, u16)]) -> Owned {
+        let (classes, clients) = labels.iter().copied().unzip();
+        Owned { logins, classes, clients }
+    }
+
+    pub fn lend(&self) -> House<'_> {
+        House { logins: self.logins, classes: &self.classes, clients: &self.clients }
+    }
+
+    pub fn folders(&self) -> usize {
+        self.classes.len()
+    }
+
+    /// A good register over at most `clients` clients, with sanitised folders among them.
+    pub fn good(random: &mut Random, logins: usize, folders: usize, clients: usize) -> Owned {
+        // An odd factor takes small numbers to numbers far apart, 0 to 0, and no two to one.
+        let spread = random.pick(&[1, 1, 128, 256, 40_503, 65_535]) | 1;
+        let classes = random.pick(&[1, 2, 3, clients.max(1)]);
+        let shelf = random.pick(&[2, 4, 8, 1000]);
+        let labels: Vec<(u16, u16)> = (0..folders)
+            .map(|_| match random.range(1, clients.max(1)) as u16 {
+                _ if random.once_in(shelf) => (0, 0),
+                client => (1 + client % classes as u16, client.wrapping_mul(spread)),
+            })
+            .collect();
+        Owned::new(logins, &labels)
+    }
+
+    /// Damages the register in one way; some of them happen to do no harm.
+    pub fn damage(&mut self, random: &mut Random) {
+        let place = random.below(self.folders().max(1));
+        match random.below(14) {
+            0 => self.logins = random.pick(&[0, 129, 130, 65_536, usize::MAX]),
+            1 => drop(self.classes.pop()),
+            2 => drop(self.clients.pop()),
+            3 => self.clients.push(1),
+            4 => {
+                self.classes.clear();
+                self.clients.clear();
+            }
+            5 | 6 => self.classes.iter_mut().skip(place).take(1).for_each(|class| *class = 0),
+            7 | 8 => self.clients.iter_mut().skip(place).take(1).for_each(|client| *client = 0),
+            9 | 10 => self.classes.iter_mut().skip(place).take(1).for_each(|class| *class = class.wrapping_add(1)),
+            _ => {
+                let other = random.below(self.folders().max(1));
+                if let Some(&client) = self.clients.get(other) {
+                    self.clients.iter_mut().skip(place).take(1).for_each(|c| *c = client);
+                }
+            }
+        }
+    }
+}
+
+/// A row of cells; the profile makes rows blank, mostly of one right, or mixed.
+pub fn cells(random: &mut Random, len: usize) -> Vec<u8> {
+    let often = random.pick(&[1, 2, 5, 50, 1_000_000]);
+    let rights: &[u8] = random.pick(&[&[1], &[2], &[3], &[1, 2], &[1, 2, 2, 2, 3]]);
+    (0..len).map(|_| if random.once_in(often) { random.pick(rights) } else { 0 }).collect()
+}
+
+/// Serials at which the record's length changes, and some between.
+pub fn serial(random: &mut Random) -> u16 {
+    match random.below(3) {
+        0 => random.pick(&[0, 1, 126, 127, 128, 129, 16_383, 16_384, 65_534, 65_535]),
+        1 => random.below(200) as u16,
+        _ => random.u16(),
+    }
+}
+
+// ---------------------------------------------------------------- the library against the reference
+
+fn register<'a>(house: &House<'a>) -> Register<'a> {
+    Register::new(house.logins, ClassNo::from_slice(house.classes), ClientNo::from_slice(house.clients))
+}
+
+/// The numbers of a refusal of the safe crate.
+fn crate_numbers(refusal: housechervil::Refusal) -> [u16; 3] {
+    let second = match refusal {
+        housechervil::Refusal::Register(housechervil::RegisterError::TwoClasses { earlier, .. }) => earlier.0,
+        _ => 0,
+    };
+    [refusal.number(), refusal.folder().map_or(0, |folder| folder.0), second]
+}
+
+/// The register check: both ways into the library against the reference.
+#[track_caller]
+pub fn same_check(house: &House) -> Result<(), Refusal> {
+    let expected = reference::check(house);
+    let numbers = expected.map_or_else(Refusal::numbers, |()| [0; 3]);
+
+    let (classes, clients) = (house.classes, house.clients);
+    // SAFETY: pointers and lengths are of slices.
+    let raw = unsafe {
+        sys::hc_register_check(house.logins, classes.as_ptr(), classes.len(), clients.as_ptr(), clients.len())
+    };
+    assert_eq!([raw.number, raw.first, raw.second], numbers, "C interface on {house:?}");
+
+    let safe = register(house).check();
+    let safe = safe.map_or_else(|error| crate_numbers(error.into()), |()| [0; 3]);
+    assert_eq!(safe, numbers, "safe crate on {house:?}");
+    expected
+}
+
+/// A request: both ways into the library against the reference. Answer, matrix and log with their guards, end and serial must be
+/// the same; then matrix and log are left as the request leaves them.
+#[track_caller]
+pub fn same_request(
+    house: &House,
+    matrix: &mut Guarded,
+    ask: Ask,
+    log: &mut Guarded,
+    end: usize,
+    serial: u16,
+) -> Reply {
+    let context = || {
+        let row = matrix.inner().get(usize::from(ask.login) * house.classes.len()..).unwrap_or_default();
+        let row = &row[..row.len().min(house.classes.len())];
+        let len = log.inner().len();
+        format!("{house:?}, matrix of {}, row {row:?}, {ask:?}, log of {len}, end {end}, serial {serial}", matrix.len)
+    };
+
+    let (mut raw_matrix, mut raw_log) = (matrix.clone(), log.clone());
+    let (mut safe_matrix, mut safe_log) = (matrix.clone(), log.clone());
+    let (mut next_matrix, mut next_log) = (matrix.clone(), log.clone());
+
+    let expected = reference::request(house, next_matrix.inner_mut(), ask, next_log.inner_mut(), end, serial);
+    let ([number, first, second], count) = match expected.answer {
+        Ok(count) => ([0; 3], count as u16),
+        Err(refusal) => (refusal.numbers(), 0),
+    };
+
+    let (m, l) = (raw_matrix.inner_mut(), raw_log.inner_mut());
+    // SAFETY: pointers and lengths are of slices; matrix and log are two buffers.
+    let raw = unsafe {
+        sys::hc_request(
+            house.logins,
+            house.classes.as_ptr(),
+            house.classes.len(),
+            house.clients.as_ptr(),
+            house.clients.len(),
+            m.as_mut_ptr(),
+            m.len(),
+            ask.login,
+            ask.folder,
+            ask.kind,
+            l.as_mut_ptr(),
+            l.len(),
+            end,
+            serial,
+        )
+    };
+    let reply = sys::hc_reply { number, first, second, count, end: expected.end, serial: expected.serial };
+    assert_eq!(raw, reply, "C interface on {}", context());
+    assert!(raw_matrix == next_matrix, "matrix or its guards, C interface on {}", context());
+    assert!(raw_log == next_log, "log or its guards, C interface on {}", context());
+
+    let request = Request { login: LoginNo(ask.login), folder: FolderNo(ask.folder), kind: KindNo(ask.kind) };
+    let safe = register(house).request(safe_matrix.inner_mut(), request, safe_log.inner_mut(), end, Serial(serial));
+    let answer = safe
+        .answer
+        .map_or_else(|refusal| (crate_numbers(refusal), 0), |granted| ([granted.number(), 0, 0], granted.taken_back));
+    assert_eq!(answer, ([number, first, second], count), "safe crate on {}", context());
+    assert_eq!((safe.end, safe.serial.0), (expected.end, expected.serial), "safe crate on {}", context());
+    assert!(safe_matrix == next_matrix, "matrix or its guards, safe crate on {}", context());
+    assert!(safe_log == next_log, "log or its guards, safe crate on {}", context());
+
+    *matrix = next_matrix;
+    *log = next_log;
+    expected
+}
+
+fn fault_numbers(fault: LogFault) -> Fault {
+    Fault { number: fault.number(), place: fault.place() }
+}
+
+/// A step of the log reader: both ways into the library against the reference.
+#[track_caller]
+pub fn same_step(log: &[u8], place: usize) -> Result<Option<Record>, Fault> {
+    let expected = reference::step(log, place);
+    let none =
+        sys::hc_log_item { number: 0, serial: 0, login: 0, folder: 0, kind: 0, answer: 0, count: 0, list: 0, place: 0 };
+    let item = match expected {
+        Ok(Some(Record { serial, login, folder, kind, answer, count, list, end })) => {
+            sys::hc_log_item { number: 0, serial, login, folder, kind, answer, count, list, place: end }
+        }
+        Ok(None) => sys::hc_log_item { number: 1, place: log.len(), ..none },
+        Err(Fault { number, place }) => sys::hc_log_item { number, place, ..none },
+    };
+    // SAFETY: pointer and length are of a slice.
+    let raw = unsafe { sys::hc_log_step(log.as_ptr(), log.len(), place) };
+    assert_eq!(raw, item, "C interface at {place} of {log:?}");
+
+    let safe = housechervil::read_record(log, place);
+    let fields = safe.map_err(fault_numbers).map(|found| {
+        found.map(|record| {
+            assert_eq!(record.start(), place);
+            Record {
+                serial: record.serial().0,
+                login: record.login().0,
+                folder: record.folder().0,
+                kind: record.kind().number(),
+                answer: record.verdict().number(),
+                count: record.count(),
+                list: record.list_place(),
+                end: record.end(),
+            }
+        })
+    });
+    assert_eq!(fields, expected, "safe crate at {place} of {log:?}");
+    if let (Ok(Some(record)), Ok(Some(other))) = (safe, expected) {
+        let listed = record.listed();
+        assert_eq!(listed.len(), usize::from(record.count()));
+        assert!(listed.map(|folder| folder.0).eq(reference::listed(log, &other)), "list at {place} of {log:?}");
+    }
+    expected
+}
+
+/// The whole-log check: both ways into the library against the reference.
+#[track_caller]
+pub fn same_log_check(log: &[u8]) -> Result<usize, Fault> {
+    let expected = reference::check_log(log);
+    let (number, value) = expected.map_or_else(|fault| (fault.number, fault.place), |records| (0, records));
+    // SAFETY: pointer and length are of a slice.
+    let raw = unsafe { sys::hc_log_check(log.as_ptr(), log.len()) };
+    assert_eq!(raw, sys::hc_placed { number, value }, "C interface on {log:?}");
+    let safe = housechervil::check_log(log).map_err(fault_numbers);
+    assert_eq!(safe, expected, "safe crate on {log:?}");
+    expected
+}
+
+/// The reading of a number: both ways into the library against the reference.
+#[track_caller]
+pub fn same_number(log: &[u8], place: usize) -> Result<(u16, usize), Fault> {
+    let expected = reference::read_number(log, place);
+    let answer = match expected {
+        Ok((value, place)) => sys::hc_number { number: 0, value, place },
+        Err(Fault { number, place }) => sys::hc_number { number, value: 0, place },
+    };
+    // SAFETY: pointer and length are of a slice.
+    let raw = unsafe { sys::hc_number_read(log.as_ptr(), log.len(), place) };
+    assert_eq!(raw, answer, "C interface at {place} of {log:?}");
+    let safe = housechervil::read_number(log, place).map_err(fault_numbers);
+    assert_eq!(safe, expected, "safe crate at {place} of {log:?}");
+    expected
+}
+
+/// Packing: both ways into the library against the reference, buffers compared whole.
+#[track_caller]
+pub fn same_pack(cells: &Guarded, packed: &mut Guarded) -> (u16, usize) {
+    let (mut raw_cells, mut raw_packed) = (cells.clone(), packed.clone());
+    let (safe_cells, mut safe_packed) = (cells.clone(), packed.clone());
+    let context = format!("{} cells, {} bytes", cells.len, packed.len);
+
+    let expected = reference::pack(cells.inner(), packed.inner_mut());
+    let (number, value) = expected.map_or_else(|refusal| refusal.numbers(), |()| (0, 0));
+
+    let (c, p) = (raw_cells.inner_mut(), raw_packed.inner_mut());
+    // SAFETY: pointers and lengths are of slices of two buffers.
+    let raw = unsafe { sys::hc_pack(c.as_mut_ptr(), c.len(), p.as_mut_ptr(), p.len()) };
+    assert_eq!(raw, sys::hc_placed { number, value }, "C interface, {context}");
+    assert!(raw_cells == *cells && raw_packed == *packed, "buffers, C interface, {context}");
+
+    let safe = housechervil::pack_into(safe_cells.inner(), safe_packed.inner_mut());
+    let safe = safe.map_or_else(
+        |error| (error.number(), if let PackError::Cell { place } = error { place } else { 0 }),
+        |()| (0, 0),
+    );
+    assert_eq!(safe, (number, value), "safe crate, {context}");
+    assert!(safe_cells == *cells && safe_packed == *packed, "buffers, safe crate, {context}");
+    (number, value)
+}
+
+/// Unpacking: both ways into the library against the reference, buffers compared whole.
+#[track_caller]
+pub fn same_unpack(packed: &Guarded, cells: &mut Guarded) -> u16 {
+    let (mut raw_cells, mut raw_packed) = (cells.clone(), packed.clone());
+    let (mut safe_cells, safe_packed) = (cells.clone(), packed.clone());
+    let context = format!("{} bytes, {} cells", packed.len, cells.len);
+
+    let expected = reference::unpack(packed.inner(), cells.inner_mut());
+    let (number, value) = expected.map_or_else(|refusal| refusal.numbers(), |()| (0, 0));
+
+    let (c, p) = (raw_cells.inner_mut(), raw_packed.inner_mut());
+    // SAFETY: pointers and lengths are of slices of two buffers.
+    let raw = unsafe { sys::hc_unpack(p.as_mut_ptr(), p.len(), c.as_mut_ptr(), c.len()) };
+    assert_eq!(raw, sys::hc_placed { number, value }, "C interface, {context}");
+    assert!(raw_cells == *cells && raw_packed == *packed, "buffers, C interface, {context}");
+
+    let safe = housechervil::unpack_into(safe_packed.inner(), safe_cells.inner_mut());
+    assert_eq!(safe.map_or_else(UnpackError::number, |()| 0), number, "safe crate, {context}");
+    assert!(safe_cells == *cells && safe_packed == *packed, "buffers, safe crate, {context}");
+    number
+}
+
+// ---------------------------------------------------------------- how often each answer came
+
+/// Counts the answers, so that a test can say that it met them all.
+#[derive(Default, Debug)]
+pub struct Tally(std::collections::BTreeMap<u16, usize>);
+
+impl Tally {
+    pub fn add(&mut self, number: u16) {
+        *self.0.entry(number).or_default() += 1;
+    }
+
+    /// Each of these numbers, and no other, came at least so often.
+    #[track_caller]
+    pub fn met(&self, numbers: &[u16], least: usize) {
+        assert!(self.0.keys().eq(numbers), "met {self:?}, not {numbers:?}");
+        assert!(self.0.values().all(|&times| times >= least), "met too seldom: {self:?}");
+    }
+}
