@@ -10,7 +10,7 @@ ghost use lib.Dec.{eqb};
 ghost use lib.ListN.{length, getD};
 ghost use Rattle.vocabulary.specs.Those.{those, some};
 ghost use Rattle.register.specs.Label.{labelOf};
-ghost use Rattle.register.specs.Register.{registerOf, exactlyOne, loneZero, differs};
+ghost use Rattle.register.specs.Register.{registerOf, exactlyOne, loneZero, differs, later};
 
 // Whether exactly one of class and client is 0.
 fn lone_zero(l: Label) -> bool
@@ -83,4 +83,19 @@ pub(crate) fn first_earlier(classes: &[u16], clients: &[u16], f: usize) -> usize
         g += 1;
     }
     g
+}
+
+// The first folder that differs in class alone from an earlier one, or F, by plain search. No folder that the loop has passed does.
+pub(crate) fn search_later(classes: &[u16], clients: &[u16]) -> usize
+    requires { ⌜ length (now classes) ≡ length (now clients) ⌝ }
+    ensures { λ r. ⌜ r ≡ getD (later (registerOf 0 (now (classes .entry)) (now (clients .entry)))) 0 (length (now (classes .entry))) ⌝ }
+{
+    let mut f = 0;
+    while f < classes.len() {
+        if first_earlier(classes, clients, f) < f {
+            return f;
+        }
+        f += 1;
+    }
+    f
 }

@@ -1,5 +1,6 @@
 // Refusal 3 in one pass: a table of the folders met so far, by their clients. Each slot heads a chain of its folders, the
 // last first; the numbers kept are one more than the folder's, and 0 is the end.
+use crate::scan::search_later;
 use ids::ClassNo;
 use ids::ClientNo;
 use ids::same_class;
@@ -64,7 +65,7 @@ fn enter(clients: &[u16], heads: &mut [u16; 2048], nexts: &mut [u16; 512], f: us
 
 // The first folder that differs in class alone from an earlier one, or F. While no folder does, all folders of a client have one class,
 // so that the last of them stands for all.
-pub(crate) fn first_later(classes: &[u16], clients: &[u16]) -> usize
+fn walk_later(classes: &[u16], clients: &[u16]) -> usize
     requires { ⌜ (length (now classes) ≤ 512) × (length (now classes) ≡ length (now clients)) ⌝ }
     ensures { λ r. ⌜ r ≡ getD (later (registerOf 0 (now (classes .entry)) (now (clients .entry)))) 0 (length (now (classes .entry))) ⌝ }
 {
@@ -80,4 +81,15 @@ pub(crate) fn first_later(classes: &[u16], clients: &[u16]) -> usize
         f += 1;
     }
     f
+}
+
+// The same; with few folders a plain search is quicker than an empty table.
+pub(crate) fn first_later(classes: &[u16], clients: &[u16]) -> usize
+    requires { ⌜ (length (now classes) ≤ 512) × (length (now classes) ≡ length (now clients)) ⌝ }
+    ensures { λ r. ⌜ r ≡ getD (later (registerOf 0 (now (classes .entry)) (now (clients .entry)))) 0 (length (now (classes .entry))) ⌝ }
+{
+    if classes.len() <= 8 {
+        return search_later(classes, clients);
+    }
+    walk_later(classes, clients)
 }

@@ -1,4 +1,4 @@
--- `first_later` meets its contract: no folder that the loop has passed differs from an earlier one, and the table holds them all.
+-- `walk_later` meets its contract: no folder that the loop has passed differs from an earlier one, and the table holds them all.
 use Prim.Native.Nat.{_≤_, _-_}
 use mathlib.Core.List.{[]}
 use mathlib.Core.Path.{_≡_, refl, sym, _∙_}
@@ -11,8 +11,8 @@ use Rattle.register.specs.Chains.{Chained}
 use Rattle.register.specs.Register.{registerOf, earlier, later}
 use Rattle.register.proofs.Later.{later-step}
 use Rattle.register.proofs.Chains.{chained-none, pastLast-le}
-use Rattle.register.proofs.table.first_later.Statement.{statement}
-use Rattle.register.proofs.table.first_later.Tie as tie
+use Rattle.register.proofs.table.walk_later.Statement.{statement}
+use Rattle.register.proofs.table.walk_later.Tie as tie
 
 abbrev Inv-loop : tie.InvT-loop
 Inv-loop classes clients heads₀ nexts₀ f₀ heads nexts f = (f ≤ length classes) × ((those (λ g. some (earlier (registerOf 0 classes clients) g)) f ≡ []) × Chained clients heads nexts f)
@@ -57,8 +57,8 @@ unfolding later
 returns-2 c =
     sym (first-end _ _ _ (c .before .loop .inv .1 .0) (c .before .loop .inv .0) (c .loop-test .left))
 
-pub first-later-spec : {M : Type 1} → statement M
-first-later-spec =
+pub walk-later-spec : {M : Type 1} → statement M
+walk-later-spec =
     tie.close
     (tie.spec
     Inv-loop
