@@ -5,7 +5,8 @@
  * earlier check.
  *
  * THE HOUSE
- *   Logins are numbered from 0; there are P of them, 1 to 128. Folders are numbered from 0; there are F of them, 1 to 512.
+ *   Logins are numbered from 0; there are P of them, 1 to 128: the parameter `logins`. Folders are numbered from 0; there are F of
+ *   them, 1 to 512: the common length of the two lists.
  *   The register gives each folder a class and a client, 0 to 65,535, in two lists in folder order. Client 0 with class 0 marks a
  *   sanitised folder; neither 0 may stand without the other. Two folders of one client have one class.
  *   The matrix has P times F bytes, login by login. A cell is 0 for no right, 1 for read, 2 for write, 3 for both; blank is all 0.
@@ -14,7 +15,7 @@
  *
  * POINTERS
  *   A list or a buffer is a pointer and its length in elements. The library reads a const one, writes into the others only what is
- *   said below, keeps no pointer, allocates nothing and needs less than 8 KiB of stack. It has no state: calls may run at the same
+ *   said below, keeps no pointer and allocates nothing; as built it needs less than 8 KiB of stack, and of the C library only memset. It has no state: calls may run at the same
  *   time unless one of them writes a buffer that another uses.
  *   A length may be 0, and then nothing is read or written through the pointer. Pass a pointer that is not null and is aligned
  *   even then (any object of the element's type will do): compiled code may assume it.
@@ -67,7 +68,8 @@ hc_register_answer hc_register_check(size_t logins, const uint16_t *classes, siz
  *
  *   Rival: a folder that the login may read, of the asked folder's class and of another client.
  *   Foreign: a folder that the login may read, not sanitised, whose client is not the asked folder's.
- *   At stake: a folder that the login may write, whose client is not the asked folder's; there are none if that is sanitised.
+ *   At stake: a folder that the login may write, whose client is not the asked folder's; there are none if the asked
+ *   folder is sanitised. A sanitised folder that is at stake loses its write right like any other.
  *
  *   kind  granted if there is            on a grant
  *   1     no rival                       read is entered; write is removed from every folder at stake
@@ -92,7 +94,8 @@ hc_register_answer hc_register_check(size_t logins, const uint16_t *classes, siz
  *   21      kind 3 or 4, a foreign folder exists                            first: it
  *   22      kind 2, a folder is at stake                                    first: it
  *   30      the record is longer than the room left; it speaks in place
- *           of a grant, 20, 21 or 22, and the decision is not told
+ *           of a grant, 20, 21 or 22 whose record does not fit, and the
+ *           decision is not told
  *
  * `end` and `serial` are the log's new end and the next serial: hand them to the next request.
  *   0             changes the login's row of the matrix and appends a record to the log
@@ -135,7 +138,7 @@ typedef struct {
 
 /*
  * Packs cells, four in a byte, the first in the lowest two bits, unused bits of the last byte 0. The packed form's length is one
- * quarter of the cells' number, rounded up; a list of 0 cells has 0 bytes.
+ * quarter of the cells' number, rounded up; a list of 0 cells has 0 bytes. The first check that fails speaks.
  *
  *   number  when                              value
  *   0       packed: all of `packed` is written
@@ -145,7 +148,7 @@ typedef struct {
 hc_placed hc_pack(const uint8_t *cells, size_t cells_len, uint8_t *packed, size_t packed_len);
 
 /*
- * Unpacks `cells_len` cells. Packing and unpacking undo each other on all they accept.
+ * Unpacks `cells_len` cells. Packing and unpacking undo each other on all they accept. The first check that fails speaks.
  *
  *   number  when
  *   0       unpacked: all of `cells` is written
@@ -172,7 +175,8 @@ hc_placed hc_unpack(const uint8_t *packed, size_t packed_len, uint8_t *cells, si
  *           or above 511; the list does not rise, or lists the record's
  *           own folder                                                      the same
  *
- * Fields are judged in their order, and byte by byte, so the first fault met speaks. A record gives serial, login, folder, kind,
+ * Fields are judged in their order, and byte by byte, so the first fault met speaks; in one field 51 and 52 come before 53, and 53
+ * before 54. A record gives serial, login, folder, kind,
  * answer (0, 20, 21 or 22), and its list as `count` and `list`, the place of the first listed number, from which hc_number_read
  * walks. After a grant the list has the folders that lost a write right, rising; after a refusal the folder carried.
  */
@@ -184,7 +188,7 @@ typedef struct {
 hc_log_item hc_log_step(const uint8_t *log, size_t log_len, size_t place);
 
 /*
- * The whole-log check.
+ * The whole-log check. `log_len` is the log's end, not its buffer's length.
  *
  *   number    when                                                          value
  *   0         every record is accepted, in its turn                         the number of records; an empty log has none
@@ -195,11 +199,13 @@ hc_placed hc_log_check(const uint8_t *log, size_t log_len);
 
 /*
  * The number at a place: groups of seven bits, lowest group first, one byte a group, the byte's top bit set if another follows.
+ * `log_len` is the log's end, not its buffer's length.
  *
  *   number  when                                                            value           place
  *   0       the number is read                                              it              the byte after it
- *   51      the bytes end inside it, or the place is past the end           0               its first byte
- *   52      not the shortest form, or above 65,535                          0               its first byte
+ *   51      the bytes end before it or inside it                            0               the place given
+ *   52      not the shortest form, or above 65,535; a third byte above 3
+ *           is 52 at once                                                   0               the place given
  */
 typedef struct {
     uint16_t number, value;

@@ -1,4 +1,4 @@
--- Document 01's answers as the records that a caller in another language gets. 'Values that an answer does not carry are 0.'
+-- Document 01's answers as the records that a caller in another language gets. A value that an answer does not carry is 0.
 use Prim.Native.Nat.{ℕ}
 use mathlib.Core.Bool.{cond}
 use mathlib.Core.List.{List}
@@ -50,7 +50,7 @@ replyOf a end serial =
       serial = serial;
     }
 
--- What the caller has after a request of whose outcome it has been told: the reply, the matrix and the log's bytes.
+-- What the caller has after a request: the reply, the matrix and the log's bytes.
 pub record Served : Type 0 where
   pub reply : Reply
   pub matrix : List ℕ

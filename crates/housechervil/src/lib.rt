@@ -75,7 +75,7 @@ pub extern "C" fn hc_register_check(
     told::verdict(register::check(logins, classes, clients))
 }
 
-// A request. Login and folder become numbers of their own types here, and nowhere behind this door.
+// A request. Its login and folder get their own types here.
 #[no_mangle]
 pub extern "C" fn hc_request(
     logins: usize,
