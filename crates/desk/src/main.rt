@@ -63,7 +63,15 @@ fn run(
     let mut serial = 0;
     for _ in 0..=input.len() {
         let progress = desk_core::step(
-            input, at, logins, classes, clients, matrix, log, end, serial,
+            input,
+            at,
+            logins,
+            classes,
+            clients,
+            matrix,
+            log,
+            end,
+            serial,
         );
         let text = progress.text;
         show(text);
