@@ -10,19 +10,19 @@ fn main() {
     let n = io::read_full(STDIN_FILENO, &mut input);
     let opening = desk_core::open(&input[..n]);
     let text = opening.text;
-    show(text);
-    if opening.onward {
+    if show(text) & opening.onward {
         serve(&input[..n], opening);
     }
 }
 
-// Writes a printed text.
-fn show(text: Text) {
+// Writes a printed text, which is never longer than its buffer; false if it could not be written.
+fn show(text: Text) -> bool {
     let bytes = text.bytes;
     let n = text.len;
-    if n <= 4096 {
-        io::write_all(STDOUT_FILENO, &bytes[..n]);
+    if 4096 < n {
+        return false;
     }
+    io::write_all(STDOUT_FILENO, &bytes[..n])
 }
 
 // The requests, with a blank matrix of P times F cells and an empty log.
@@ -48,7 +48,8 @@ fn serve(input: &[u8], opening: Opening) {
     }
 }
 
-// Step after step, until the run is over: every line has a byte, and the last step finds the end.
+// Step after step, until the run is over or the output takes no more. One step more than the input has bytes is enough: every line has
+// bytes, and one step finds the end.
 fn run(
     input: &[u8],
     place: usize,
@@ -74,8 +75,7 @@ fn run(
             serial,
         );
         let text = progress.text;
-        show(text);
-        if !progress.onward {
+        if !(show(text) & progress.onward) {
             return;
         }
         at = progress.place;

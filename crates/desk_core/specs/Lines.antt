@@ -1,5 +1,5 @@
 -- The lines that the desk reads (document 01, 'The desk program').
-use Prim.Native.Nat.{ℕ, zero, suc, _+_, _-_, _*_}
+use Prim.Native.Nat.{ℕ, suc, _+_, _-_, _*_}
 use mathlib.Core.Bool.{Bool, cond, not, _&&_, _||_}
 use mathlib.Core.List.{List, [], _∷_}
 use lib.Dec.{eqb, leb, ltb}
@@ -42,7 +42,7 @@ numberAt text place =
 
 -- ---- lines
 
--- The byte at a place; past the end there is none, which is no byte's number.
+-- The byte at a place; 256, which is no byte, past the end.
 abbrev pub byteAt : List ℕ → ℕ → ℕ
 byteAt text place = getD text place 256
 
@@ -63,7 +63,8 @@ lastAt text place = do
   (_, next) ← expected 10 text end
   answer 0 (n ∷ next ∷ [])
 
--- A line of the input: `P n`, `F class client`, or `R`, `C`, `W`, `B` with login and folder; each with the place after it.
+-- A line of the input: `P n`, `F class client`, or `R`, `C`, `W`, `B` with login and folder, each with the place after it; or an ill-formed
+-- line.
 pub data Item : Type 0 where
   logins : (n next : ℕ) → Item
   folder : (class client next : ℕ) → Item
@@ -74,11 +75,11 @@ pub data Item : Type 0 where
 abbrev pub kindOf : ℕ → ℕ
 kindOf letter = cond (eqb letter 82) 1 (cond (eqb letter 67) 2 (cond (eqb letter 87) 3 (cond (eqb letter 66) 4 0)))
 
--- What the last of a line's numbers makes of it.
+-- The item that a line's last number completes, or an ill-formed line.
 abbrev pub onLast : Answer → (ℕ → ℕ → Item) → Item
 onLast a make = cond (eqb (a .number) 0) (make (getD (a .carried) 0 0) (getD (a .carried) 1 0)) ill
 
--- The same of two numbers.
+-- The item that two numbers make.
 unfoldable pub pairAt : List ℕ → ℕ → (ℕ → ℕ → ℕ → Item) → Item
 pairAt text place make =
     let first : Answer = partAt text place in

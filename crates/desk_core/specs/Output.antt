@@ -27,7 +27,7 @@ filed classes clients place =
       place = place;
     }
 
--- Another folder line goes before what follows it; any other line is not the folders'.
+-- A folder's line is put before the folders that follow; any other line ends them.
 abbrev pub filedOn : Item → ℕ → (ℕ → Filed) → Filed
 filedOn (folder class client next) place more = filed (class ∷ more next .classes) (client ∷ more next .clients) (more next .place)
 filedOn (logins n next) place more = filed [] [] place
@@ -56,12 +56,14 @@ asked requests place =
       place = place;
     }
 
+-- A request's line is put before the requests that follow; any other line ends them.
 abbrev pub askedOn : Item → ℕ → (ℕ → Asked) → Asked
 askedOn (request kind login o next) place more = asked (session.request kind login o ∷ more next .requests) (more next .place)
 askedOn (logins n next) place more = asked [] place
 askedOn (folder class client next) place more = asked [] place
 askedOn ill place more = asked [] place
 
+-- The requests from a place on.
 unfoldable pub askedBy : (fuel : ℕ) → List ℕ → ℕ → Asked
 askedBy zero text place = asked [] place
 askedBy (suc fuel) text place = askedOn (lineAt text place) place (askedBy fuel text)
@@ -75,24 +77,25 @@ askedAt text place = askedBy (length text) text place
 unfoldable pub ending : List ℕ → ℕ → List ℕ
 ending text place = cond (leb (length text) place) [] (badLine (lineNumber text place))
 
--- The requests' lines, with a blank matrix and a new log.
+-- What the requests print, with a blank matrix and a new log, and then what ends the run.
 unfoldable pub served : Register → List ℕ → ℕ → List ℕ
 served r text place =
     linesText (session r (replicate (r .logins * folders r) 0) newLog (askedAt text place .requests) .lines)
     ++ ending text (askedAt text place .place)
 
--- 'The register is checked at the first request or at the end; its refusal ends the run.'
+-- The register's check: 'its refusal prints `register`, the number and the folders carried, and ends the run'.
 unfoldable pub checkedThen : Register → List ℕ → List ℕ
-checkedThen r onward = cond (eqb (registerAnswer r .number) 0) onward (badRegister (registerAnswer r))
+checkedThen r rest = cond (eqb (registerAnswer r .number) 0) rest (badRegister (registerAnswer r))
 
--- Whether a request stands at a place.
+-- Whether a line is a request.
 abbrev pub isRequest : Item → Bool
 isRequest (request kind login o next) = true
 isRequest (logins n next) = false
 isRequest (folder class client next) = false
 isRequest ill = false
 
--- After the line `P n`: the folders, then the register's check at a request or at the end, then the requests.
+-- After the folders: 'the register is checked at the first request or at the end', and the requests follow; any other line is ill-formed or
+-- misplaced.
 unfoldable pub filedThen : (p : ℕ) → List ℕ → Filed → List ℕ
 filedThen p text f =
     cond (isRequest (lineAt text (f .place)) || leb (length text) (f .place))

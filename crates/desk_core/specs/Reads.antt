@@ -1,4 +1,4 @@
--- What the functions that read the input hand back, in the definitions' terms.
+-- Internal: what the functions that read the input hand back, in the definitions' terms.
 use Prim.Native.Nat.{ℕ, _+_}
 use mathlib.Core.Bool.{cond, _&&_}
 use mathlib.Core.List.{List, [], _∷_}

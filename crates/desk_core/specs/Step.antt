@@ -1,8 +1,8 @@
 -- The output in steps: what is printed before the first request, and what each request line prints. `Joined.antt` says that together
 -- they print the whole output.
-use Prim.Native.Nat.{ℕ, zero, suc}
+use Prim.Native.Nat.{ℕ}
 use mathlib.Core.Bool.{Bool, true, false, cond, _||_}
-use mathlib.Core.List.{List, [], _∷_, _++_}
+use mathlib.Core.List.{List, []}
 use lib.Dec.{eqb, leb, ltb}
 use lib.ListN.{length, replicate}
 use lib.Seq.{sets}
@@ -15,7 +15,7 @@ use Rattle.desk_core.specs.declared.Opening.{Opening}
 use Rattle.desk_core.specs.declared.Progress.{Progress}
 use Rattle.desk_core.specs.Lines.{Item, logins, folder, request, ill, lineAt, lineNumber}
 use Rattle.desk_core.specs.Text.{inputTooLong, badLine, badRegister, lineText}
-use Rattle.desk_core.specs.Output.{Filed, filed, filedAt, ending, isRequest}
+use Rattle.desk_core.specs.Output.{Filed, filedAt, ending, isRequest}
 
 -- A printed text as it is handed back: its bytes from the start of the buffer, zeros after them, and how many they are.
 unfoldable pub textOf : List ℕ → Text
@@ -27,7 +27,7 @@ textOf bytes =
 
 -- ---- the opening
 
--- What stands before the requests: what is printed, and, if the run goes on, the register and the place of the first request.
+-- The input up to its first request, or up to its end: what is printed of it, and, if the run goes on, the register and the place after it.
 pub record Opened : Type 0 where
   pub text : List ℕ
   pub onward : Bool

@@ -1,5 +1,5 @@
-// The desk's text interface over the monitor (document 01, 'The desk program'). An input's output is printed in steps: `open` prints
-// what stands before the requests, and `step` a request's line.
+// The desk's text interface over the monitor (document 01, 'The desk program'). The output is printed in steps: `open` takes the input up to
+// its first request, and `step` one line after the other from there.
 use ids::FolderNo;
 use ids::LoginNo;
 use lines::Line;
@@ -19,7 +19,7 @@ pub struct Text {
     pub len: usize,
 }
 
-// What stands before the requests: what is printed, and, if the run goes on, the register and the place of the first request.
+// The input up to its first request, or up to its end: what is printed of it, and, if the run goes on, the register and the place after it.
 pub struct Opening {
     pub text: Text,
     pub onward: bool,
@@ -39,7 +39,7 @@ pub struct Progress {
     pub serial: u16,
 }
 
-// The lines before the requests: the number of logins, the folders, and the register's check.
+// The input up to its first request, or up to its end: its length, `P n`, the folders, the register's check. Prints the refusal, or nothing.
 pub fn open(text: &[u8]) -> Opening
     ensures { λ r. ⌜ r ≡ openingOf (opened (now (text .entry))) ⌝ }
 {
@@ -49,7 +49,8 @@ pub fn open(text: &[u8]) -> Opening
     heading::from_first(text)
 }
 
-// The line at a place, after the opening: a request is asked of the monitor and its answer printed; anything else ends the run.
+// The line at a place, after the opening. A request is asked of the monitor and its answer printed; anything else ends the run, with
+// `line n 40` unless the input ends there.
 pub fn step(
     text: &[u8],
     place: usize,
