@@ -2,3 +2,4 @@ pub mod Decimal
 pub mod Spaced
 pub mod Printed
 pub mod ListFrom
+pub mod RecordLine
