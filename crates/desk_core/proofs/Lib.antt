@@ -6,3 +6,4 @@ pub mod Spaced
 pub mod Printed
 pub mod ListFrom
 pub mod RecordLine
+pub mod LoggedLine
