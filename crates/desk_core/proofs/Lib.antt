@@ -7,3 +7,6 @@ pub mod Printed
 pub mod ListFrom
 pub mod RecordLine
 pub mod LoggedLine
+pub mod Stepped
+pub mod Small
+pub mod Fits
