@@ -1,27 +1,27 @@
 -- What the opening prints, and what a step prints, fits in 4,096 bytes.
-use Prim.Native.Nat.{ℕ, suc, _+_, _≤_, _<_, _^_}
+use Prim.Native.Nat.{ℕ, suc, _≤_, _<_, _^_}
 use native.Mathlib.Omega.{arith}
 use mathlib.Core.Path.{_≡_}
-use mathlib.Core.Logic.{_⊎_, inl, inr, ⊎-elim}
+use mathlib.Core.Logic.{_⊎_, inl, inr}
 use mathlib.Core.Bool.{Bool, true, false, cond, _||_}
-use mathlib.Core.List.{List, [], _∷_, _++_}
+use mathlib.Core.List.{List, [], _∷_}
 use lib.Dec.{eqb, leb, ltb}
-use lib.ListN.{length, take, length-append, length-take}
+use lib.ListN.{length, take, length-take}
 use borrow.Author.Tests.{ltb-false}
 use Rattle.vocabulary.proofs.Bools.{true-or-false}
 use Rattle.register.specs.Register.{Register, registerOf, registerAnswer}
-use Rattle.policy.specs.Outcome.{Request, Log, isLogged, recordOf, outcome}
+use Rattle.policy.specs.Outcome.{Request, Log, isLogged, outcome}
 use Rattle.policy.specs.Session.{lineOf}
 use Rattle.policy.specs.Session as session
 use Rattle.log_exact.proofs.Rising.{rising-less}
 use Rattle.log_exact.proofs.Appended.{logged-well-formed}
 use Rattle.desk_core.specs.Lines.{Item, logins, folder, request, ill, ended, lineAt, lineNumber}
-use Rattle.desk_core.specs.Text.{decimal, printed, inputTooLong, badLine, badRegister, lineText}
+use Rattle.desk_core.specs.Text.{decimal, badLine, badRegister, lineText}
 use Rattle.desk_core.specs.Output.{Filed, filedAt, ending, isRequest}
-use Rattle.desk_core.specs.Step.{Opened, closedWith, openedWith, openedOn, firstOn, opened, steppedOn, stepped}
+use Rattle.desk_core.specs.Step.{openedWith, openedOn, firstOn, opened, steppedOn, stepped}
 use Rattle.desk_core.proofs.Decimal.{decimal-16, decimal-length}
 use Rattle.desk_core.proofs.Printed.{printed-first}
-use Rattle.desk_core.proofs.Small.{Small, printed-most, rising-small, register-few, outcome-most}
+use Rattle.desk_core.proofs.Small.{printed-most, rising-small, register-few, outcome-most}
 
 -- ---- a line's number
 

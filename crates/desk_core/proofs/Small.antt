@@ -1,7 +1,7 @@
 -- What is printed after a line's first part are numbers of 16 bits.
 use Prim.Native.Nat.{ℕ, suc, _+_, _*_, _≤_, _<_}
 use native.Mathlib.Omega.{arith}
-use mathlib.Core.Path.{_≡_, refl, sym, ap, _∙_}
+use mathlib.Core.Path.{_≡_, refl}
 use mathlib.Core.Logic.{_⊎_, inl, inr}
 use mathlib.Core.Bool.{Bool, true, false, cond, _&&_}
 use mathlib.Core.List.{List, [], _∷_, _++_}
@@ -13,12 +13,12 @@ use Rattle.vocabulary.specs.Those.{those, some, smallest}
 use Rattle.vocabulary.proofs.Bools.{both, true-or-false}
 use Rattle.vocabulary.proofs.Those.{smallest-holds, some-none}
 use Rattle.register.specs.Register.{Register, folders, inRange, loneZero, differs, earlier, later, registerChecks, registerAnswer}
-use Rattle.register.proofs.Answers.{Ranged, inRange-ranged, answer-range}
+use Rattle.register.proofs.Answers.{inRange-ranged, answer-range}
 use Rattle.audit_log.specs.WellFormed.{Rising}
 use Rattle.policy.specs.Rules.{rowOf}
 use Rattle.policy.specs.Outcome.{Request, Log, isLogged, requestChecks, wallChecks, wallAnswer, decision, logged, outcome}
 use Rattle.policy.proofs.Outcome.{tooLong, outcome-unlogged, outcome-long}
-use Rattle.desk_core.specs.Text.{decimal, spaced, printed}
+use Rattle.desk_core.specs.Text.{spaced, printed}
 use Rattle.desk_core.proofs.Decimal.{decimal-16}
 use Rattle.desk_core.proofs.Printed.{length-printed}
 

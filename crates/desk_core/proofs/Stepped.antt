@@ -12,7 +12,7 @@ use Rattle.desk_core.specs.declared.Text.{Text}
 use Rattle.desk_core.specs.Lines.{Item, logins, folder, request, ill, lineAt}
 use Rattle.desk_core.specs.Output.{isRequest}
 use Rattle.desk_core.specs.Recorded.{recordText}
-use Rattle.desk_core.specs.Step.{Stepped, Left, textOf, over, steppedOn, stepped, leftBy}
+use Rattle.desk_core.specs.Step.{Left, textOf, over, steppedOn, stepped, leftBy}
 use Rattle.desk_core.specs.Text.{unloggedText}
 use Rattle.desk_core.proofs.LoggedLine.{answer-text}
 
