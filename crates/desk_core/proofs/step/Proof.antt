@@ -5,9 +5,12 @@ use borrow.Author.Needs.{needs}
 use Rattle.monitor.specs.Reply.{logOf}
 use Rattle.register.specs.Register.{registerOf}
 use Rattle.desk_core.specs.Reads.{lineItem}
-use Rattle.desk_core.proofs.Stepped.{stepped-request}
+use Rattle.desk_core.proofs.Arms.{no-request}
+use Rattle.desk_core.proofs.Stepped.{stepped-over, stepped-request}
 use Rattle.desk_core.proofs.step.Statement.{statement}
 use Rattle.desk_core.proofs.step.Tie as tie
+
+-- `step` meets its contract: a request's reply is printed as its line; anything else ends the run.
 
 read-line-requires : tie.Need-read-line-requires
 read-line-requires c κs = search needs
@@ -36,7 +39,9 @@ returns c =
     stepped-request (a .text .now) (registerOf (a .logins) (a .classes .now) (a .clients .now)) (a .place) (a .matrix .now) (logOf (a .log .now) (a .end) (a .serial)) _ _ _ _ (sym (c .before .before .before .before .before .before .before .before .before .before .before .before .read-line .ensures) ∙ ap lineItem (c .before .before .before .before .before .before .before .before .before .before .kind .given .1)) (omega (arith, c .before .before .before .before .before .before .before .before .before .before .before .before .before .before .before .before .before .before .fits .serial .fits)) (c .before .before .before .before .before .before .request .result) _ _ _ (c .before .before .before .before .before .before .request .ensures) (c .answer-line .ensures)
 
 returns-2 : tie.Need-returns-2
-returns-2 c = ?
+returns-2 c =
+    let a = c .before .before .before .before .before .before .before .before .args in
+    rw (c .ending .ensures, stepped-over (a .text .now) (registerOf (a .logins) (a .classes .now) (a .clients .now)) (a .place) (a .matrix .now) (logOf (a .log .now) (a .end) (a .serial)) (rw (← c .before .before .read-line .ensures) (no-request (c .before .before .read-line .result) (c .before .match .keys2))))
 
 pub step-spec : {M : Type 1} → statement M
 step-spec =
