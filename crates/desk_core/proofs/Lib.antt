@@ -5,3 +5,6 @@ pub mod Decimal
 pub mod Spaced
 pub mod Printed
 pub mod ListFrom
+pub mod Filed
+pub mod Arms
+pub mod Opened
