@@ -7,6 +7,9 @@ pub mod Printed
 pub mod ListFrom
 pub mod RecordLine
 pub mod LoggedLine
+pub mod Filed
+pub mod Arms
+pub mod Opened
 pub mod Stepped
 pub mod Small
 pub mod Fits
