@@ -22,8 +22,9 @@ use Rattle.desk_core.specs.Lines.{Item, logins, folder, request, ill, li
 use Rattle.desk_core.specs.Text.{inputTooLong, badLine, badRegister, lineText, linesText}
 use Rattle.desk_core.specs.Output.{Filed, filedAt, askedBy, askedAt, ending, isRequest, served, checkedThen, filedThen, firstThen, output}
 use Rattle.desk_core.specs.Step.{textOf, Opened, opened, openedOn, openedWith, closedWith, firstOn, Stepped, stepped, openingOf}
-use Rattle.desk_core.specs.Joined.{shown, stepsBy, run}
+use Rattle.desk_core.specs.Joined.{shown, stepsBy, run, Joined}
 use Rattle.desk_core.proofs.Onward.{Ahead, line-ahead}
+use Rattle.desk_core.proofs.Fits.{opening-fits, step-fits}
 
 -- ---- what is handed back is what is printed
 
@@ -34,6 +35,18 @@ taken buffer text h = rw (sets-eq text buffer 0 (omega arith)) (take-append-seam
 shown-text : (text : List ℕ) → length text ≤ 4096 → shown (textOf text) ≡ text
 unfolding textOf
 shown-text text h = taken (replicate 4096 0) text (rw (length-replicate {A = ℕ} 4096 0) h)
+
+-- A run from an opening on.
+abbrev runOf : List ℕ → Opened → List ℕ
+runOf text x =
+    let y = openingOf x in
+    shown (y .text)
+    ++ cond (y .onward)
+    (stepsBy (suc (length text)) text (registerOf (y .logins) (take (y .folders) (y .classes)) (take (y .folders) (y .clients))) (y .place) (replicate (y .logins * y .folders) 0) newLog)
+    []
+
+closed-whole : (text line : List ℕ) → length line ≤ 4096 → runOf text (closedWith line) ≡ line
+closed-whole text line h = append-nil (shown (textOf line)) ∙ shown-text line h
 
 -- What steps print, without the buffers.
 unfoldable plainBy : (fuel : ℕ) → List ℕ → Register → (place : ℕ) → (matrix : List ℕ) → Log → List ℕ
@@ -113,18 +126,6 @@ module _ (text : List ℕ)
 
   -- ---- the opening
 
-  -- A run from an opening on.
-  abbrev runOf : Opened → List ℕ
-  runOf x =
-      let y = openingOf x in
-      shown (y .text)
-      ++ cond (y .onward)
-      (stepsBy (suc (length text)) text (registerOf (y .logins) (take (y .folders) (y .classes)) (take (y .folders) (y .clients))) (y .place) (replicate (y .logins * y .folders) 0) newLog)
-      []
-
-  closed-whole : (line : List ℕ) → length line ≤ 4096 → runOf (closedWith line) ≡ line
-  closed-whole line h = append-nil (shown (textOf line)) ∙ shown-text line h
-
   -- The register is handed back as it was filed.
   accepted-sizes : (r : Register) → eqb (registerAnswer r .number) 0 ≡ true → (folders r ≤ 512) × (length (r .clients) ≡ folders r)
   accepted-sizes r e =
@@ -140,30 +141,40 @@ module _ (text : List ℕ)
       rw (taken (replicate 512 0) (r .classes) (rw whole few), ← same, taken (replicate 512 0) (r .clients) (rw (whole, same) few))
 
   checked-whole : (b : Bool) (r : Register) (place : ℕ) → eqb (registerAnswer r .number) 0 ≡ b → length (openedWith r place .text) ≤ 4096
-      → runOf (openedWith r place) ≡ checkedThen r (served r text place)
+      → runOf text (openedWith r place) ≡ checkedThen r (served r text place)
   unfolding openedWith checkedThen served askedAt
   checked-whole true r place e h =
       rw (e, register-again r (accepted-sizes r e), shown-text [] (omega arith))
       (steps-plain (suc (length text)) r place (replicate (r .logins * folders r) 0) newLog (omega arith)
       ∙ steps-served r (length text) place (replicate (r .logins * folders r) 0) newLog (omega arith))
-  checked-whole false r place e h = rw e (closed-whole (badRegister (registerAnswer r)) (rw e at h))
+  checked-whole false r place e h = rw e (closed-whole text (badRegister (registerAnswer r)) (rw e at h))
 
   filed-whole : (b : Bool) (p : ℕ) (f : Filed) → (isRequest (lineAt text (f .place)) || leb (length text) (f .place)) ≡ b
-      → length (openedOn p text f .text) ≤ 4096 → runOf (openedOn p text f) ≡ filedThen p text f
+      → length (openedOn p text f .text) ≤ 4096 → runOf text (openedOn p text f) ≡ filedThen p text f
   unfolding openedOn filedThen
   filed-whole true p f e h =
       let r = registerOf p (f .classes) (f .clients) in
       rw e (checked-whole (eqb (registerAnswer r .number) 0) r (f .place) refl (rw e at h))
-  filed-whole false p f e h = rw e (closed-whole (badLine (lineNumber text (f .place))) (rw e at h))
+  filed-whole false p f e h = rw e (closed-whole text (badLine (lineNumber text (f .place))) (rw e at h))
 
-  first-whole : (item : Item) → length (firstOn item text .text) ≤ 4096 → runOf (firstOn item text) ≡ firstThen item text
+  first-whole : (item : Item) → length (firstOn item text .text) ≤ 4096 → runOf text (firstOn item text) ≡ firstThen item text
   first-whole (logins p next) h =
       let f = filedAt text next in filed-whole (isRequest (lineAt text (f .place)) || leb (length text) (f .place)) p f refl h
-  first-whole (folder class client next) h = closed-whole (badLine 1) h
-  first-whole (request kind login o next) h = closed-whole (badLine 1) h
-  first-whole ill h = closed-whole (badLine 1) h
+  first-whole (folder class client next) h = closed-whole text (badLine 1) h
+  first-whole (request kind login o next) h = closed-whole text (badLine 1) h
+  first-whole ill h = closed-whole text (badLine 1) h
 
-  output-whole : (b : Bool) → ltb 65536 (length text) ≡ b → length (opened text .text) ≤ 4096 → run text ≡ output text
-  unfolding run opened output
-  output-whole true e h = rw e (closed-whole inputTooLong (rw e at h))
-  output-whole false e h = rw e (first-whole (lineAt text 0) (rw e at h))
+output-whole : (text : List ℕ) (b : Bool) → ltb 65536 (length text) ≡ b → length (opened text .text) ≤ 4096 → run text ≡ output text
+unfolding run opened output
+output-whole text true e h = rw e (closed-whole text inputTooLong (rw e at h))
+output-whole text false e h =
+    let short : length text < 2 ^ 64 = omega (arith, ltb-false 65536 (length text) e) in
+    rw e (first-whole text (λ r place matrix log. step-fits text r place matrix log short) (lineAt text 0) (rw e at h))
+
+pub joined : Joined
+joined =
+    record {
+      whole = λ text. output-whole text (ltb 65536 (length text)) refl (opening-fits text);
+      opening-fits = opening-fits;
+      step-fits = step-fits;
+    }

@@ -5,4 +5,12 @@ pub mod Decimal
 pub mod Spaced
 pub mod Printed
 pub mod ListFrom
+pub mod RecordLine
+pub mod LoggedLine
+pub mod Filed
+pub mod Arms
+pub mod Opened
+pub mod Stepped
+pub mod Small
+pub mod Fits
 pub mod Joined

@@ -116,3 +116,13 @@ line-ahead text place =
     either-way P (eqb letter 80) l (cond (eqb letter 70) f (cond (ltb 0 (kindOf letter)) r ill)) (λ e. last-makes P text (suc place) logins tt (λ n next h. (omega arith, h .1)))
     (λ e. either-way P (eqb letter 70) f (cond (ltb 0 (kindOf letter)) r ill) (λ e. pair-makes P text (suc place) folder tt (λ m n next h. (omega arith, h .1)))
     (λ e. either-way P (ltb 0 (kindOf letter)) r ill (λ e. pair-makes P text (suc place) (request (kindOf letter)) tt (λ m n next h. (omega arith, h .1))) (λ e. tt)))
+
+-- Past the end there is no line.
+pub line-past : (text : List ℕ) (place : ℕ) → length text ≤ place → lineAt text place ≡ ill
+line-past text place past = by (lineAt text place) (line-ahead text place)
+  where
+    by : (item : Item) → Ahead text place item → item ≡ ill
+    by (logins n next) ahead = absurd (omega arith)
+    by (folder class client next) ahead = absurd (omega arith)
+    by (request kind login o next) ahead = absurd (omega arith)
+    by ill ahead = refl

@@ -5,7 +5,7 @@ use crate::lines;
 use crate::lines::Line;
 use crate::printing;
 use register::Verdict;
-ghost use Prim.Native.Nat.{ℕ, _≤_};
+ghost use Prim.Native.Nat.{ℕ};
 ghost use mathlib.Core.Path.{_≡_};
 ghost use mathlib.Core.Bool.{_||_};
 ghost use mathlib.Core.List.{List};
@@ -34,7 +34,6 @@ fn store(list: &mut [u16], folder: usize, label: u16)
 
 // Files the folders from a place on. What the walk has stored are the folders whose lines it has passed.
 fn file(text: &[u8], place: usize, classes: &mut [u16], clients: &mut [u16]) -> Filing
-    requires { ⌜ place ≤ length (now text) ⌝ }
     ensures { λ r. ⌜ (now (classes .exit) ≡ sets (now (classes .entry)) 0 (filedAt (now (text .entry)) place .classes)) × (now (clients .exit) ≡ sets (now (clients .entry)) 0 (filedAt (now (text .entry)) place .clients)) × (r .folders ≡ length (filedAt (now (text .entry)) place .classes)) × (r .place ≡ filedAt (now (text .entry)) place .place) ⌝ }
 {
     let mut folders: usize = 0;
