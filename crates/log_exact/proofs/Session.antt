@@ -59,7 +59,7 @@ checked-chain log (e ∷ es) fuel place seen last serial enough within h c t =
 -- ---- a session writes a chain
 
 -- A request that was not logged leaves the log.
-unlogged-left : (r : Register) (m : List ℕ) (q : Request) (log : Log) → isLogged (outcome r m q log .answer) ≡ false → outcome r m q log .log ≡ log
+pub unlogged-left : (r : Register) (m : List ℕ) (q : Request) (log : Log) → isLogged (outcome r m q log .answer) ≡ false → outcome r m q log .log ≡ log
 unfolding outcome logged tooLong
 unlogged-left r m q log l = go (true-or-false (isLogged (decision r m q log))) (true-or-false (tooLong r m q log))
   where

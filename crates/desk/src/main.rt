@@ -1,0 +1,85 @@
+// The desk (document 01, 'The desk program'): standard input to `desk_core` to standard output, nothing else.
+use desk_core::Opening;
+use desk_core::Text;
+use libc::STDIN_FILENO;
+use libc::STDOUT_FILENO;
+
+fn main() {
+    // one byte more than the desk takes, so that a longer input is seen to be one
+    let mut input = [0u8; 65537];
+    let n = io::read_full(STDIN_FILENO, &mut input);
+    let opening = desk_core::open(&input[..n]);
+    let text = opening.text;
+    if show(text) & opening.onward {
+        serve(&input[..n], opening);
+    }
+}
+
+// Writes a printed text, which is never longer than its buffer; false if it could not be written.
+fn show(text: Text) -> bool {
+    let bytes = text.bytes;
+    let n = text.len;
+    if 4096 < n {
+        return false;
+    }
+    io::write_all(STDOUT_FILENO, &bytes[..n])
+}
+
+// The requests, with a blank matrix of P times F cells and an empty log.
+fn serve(input: &[u8], opening: Opening) {
+    let folders = opening.folders;
+    let logins = opening.logins;
+    let classes = opening.classes;
+    let clients = opening.clients;
+    let mut matrix = [0u8; 65536];
+    let mut log = [0u8; 65536];
+    // an accepted register has no more
+    if (folders <= 512) & (logins <= 128) {
+        let cells = logins * folders;
+        run(
+            input,
+            opening.place,
+            logins,
+            &classes[..folders],
+            &clients[..folders],
+            &mut matrix[..cells],
+            &mut log,
+        );
+    }
+}
+
+// Step after step, until the run is over or the output takes no more. One step more than the input has bytes is enough: every line has
+// bytes, and one step finds the end.
+fn run(
+    input: &[u8],
+    place: usize,
+    logins: usize,
+    classes: &[u16],
+    clients: &[u16],
+    matrix: &mut [u8],
+    log: &mut [u8],
+) {
+    let mut at = place;
+    let mut end = 0;
+    let mut serial = 0;
+    for _ in 0..=input.len() {
+        let progress = desk_core::step(
+            input,
+            at,
+            logins,
+            classes,
+            clients,
+            matrix,
+            log,
+            end,
+            serial,
+        );
+        let text = progress.text;
+        if !(show(text) & progress.onward) {
+            return;
+        }
+        at = progress.place;
+        end = progress.end;
+        serial = progress.serial;
+    }
+}

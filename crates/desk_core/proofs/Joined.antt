@@ -1,0 +1,180 @@
+-- The steps print the whole output.
+use Prim.Native.Nat.{ℕ, zero, suc, _+_, _*_, _≤_, _<_, _^_}
+use native.Mathlib.Omega.{arith}
+use mathlib.Core.Path.{_≡_, refl, ap, sym, _∙_}
+use mathlib.Core.Bool.{Bool, true, false, cond, _&&_, _||_}
+use mathlib.Core.Logic.{_⊎_, inl, inr}
+use mathlib.Core.List.{List, [], _∷_, _++_, append-assoc, append-nil}
+use lib.Dec.{eqb, leb, ltb}
+use lib.ListN.{length, replicate, take, length-replicate}
+use lib.Seq.{sets, sets-eq, take-append-seam}
+use borrow.Author.Tests.{eqb-true, leb-true, ltb-false}
+use Rattle.vocabulary.proofs.Bools.{true-or-false, both}
+use Rattle.serial.specs.Serial.{following}
+use Rattle.register.specs.Register.{Register, registerOf, folders, registerAnswer}
+use Rattle.policy.specs.Outcome.{Request, Log, Outcome, outcome, isLogged}
+use Rattle.policy.specs.Session.{newLog, session, lineOf}
+use Rattle.policy.specs.Session as session
+use Rattle.policy.proofs.Accepted.{in-range}
+use Rattle.log_exact.proofs.Appended.{logged-left}
+use Rattle.log_exact.proofs.Session.{unlogged-left}
+use Rattle.desk_core.specs.Lines.{Item, logins, folder, request, ill, lineAt, lineNumber}
+use Rattle.desk_core.specs.Text.{inputTooLong, badLine, badRegister, lineText, linesText}
+use Rattle.desk_core.specs.Output.{Filed, filedAt, askedBy, askedAt, ending, isRequest, served, checkedThen, filedThen, firstThen, output}
+use Rattle.desk_core.specs.Step.{textOf, Opened, opened, openedOn, openedWith, closedWith, firstOn, Stepped, stepped, openingOf}
+use Rattle.desk_core.specs.Joined.{shown, stepsBy, run, Joined}
+use Rattle.desk_core.proofs.Onward.{Ahead, line-ahead}
+use Rattle.desk_core.proofs.Fits.{opening-fits, step-fits}
+
+-- ---- what is handed back is what is printed
+
+-- A text that fits its buffer is found there again.
+taken : (buffer text : List ℕ) → length text ≤ length buffer → take (length text) (sets buffer 0 text) ≡ text
+taken buffer text h = rw (sets-eq text buffer 0 (omega arith)) (take-append-seam text _)
+
+shown-text : (text : List ℕ) → length text ≤ 4096 → shown (textOf text) ≡ text
+unfolding textOf
+shown-text text h = taken (replicate 4096 0) text (rw (length-replicate {A = ℕ} 4096 0) h)
+
+-- A run from an opening on.
+abbrev runOf : List ℕ → Opened → List ℕ
+runOf text x =
+    let y = openingOf x in
+    shown (y .text)
+    ++ cond (y .onward)
+    (stepsBy (suc (length text)) text (registerOf (y .logins) (take (y .folders) (y .classes)) (take (y .folders) (y .clients))) (y .place) (replicate (y .logins * y .folders) 0) newLog)
+    []
+
+closed-whole : (text line : List ℕ) → length line ≤ 4096 → runOf text (closedWith line) ≡ line
+closed-whole text line h = append-nil (shown (textOf line)) ∙ shown-text line h
+
+-- What steps print, without the buffers.
+unfoldable plainBy : (fuel : ℕ) → List ℕ → Register → (place : ℕ) → (matrix : List ℕ) → Log → List ℕ
+plainBy zero text r place matrix log = []
+plainBy (suc fuel) text r place matrix log =
+    let s : Stepped = stepped text r place matrix log in
+    s .text ++ cond (s .onward) (plainBy fuel text r (s .place) (s .matrix) (s .log)) []
+
+-- A serial of 16 bits stays one.
+serial-kept : (r : Register) (matrix : List ℕ) (q : Request) (log : Log) → log .serial ≤ 65535 → outcome r matrix q log .log .serial ≤ 65535
+serial-kept r matrix q log h = go (true-or-false (isLogged (outcome r matrix q log .answer)))
+  where
+    go : (isLogged (outcome r matrix q log .answer) ≡ true) ⊎ (isLogged (outcome r matrix q log .answer) ≡ false) → outcome r matrix q log .log .serial ≤ 65535
+    go (inl l) =
+        let next : outcome r matrix q log .log .serial ≡ following 65536 (log .serial) = ap (λ (k : Log). k .serial) (logged-left r matrix q log l) in
+        rw next (omega arith)
+    go (inr l) = rw (unlogged-left r matrix q log l) h
+
+-- ---- the steps
+
+module _ (text : List ℕ)
+    (fits : (r : Register) (place : ℕ) (matrix : List ℕ) (log : Log) → log .serial ≤ 65535 → length (stepped text r place matrix log .text) ≤ 4096) where
+  step-serial : (r : Register) (place : ℕ) (matrix : List ℕ) (log : Log) → log .serial ≤ 65535 → stepped text r place matrix log .log .serial ≤ 65535
+  unfolding stepped
+  step-serial r place matrix log h = go (lineAt text place) refl
+    where
+      go : (item : Item) → lineAt text place ≡ item → stepped text r place matrix log .log .serial ≤ 65535
+      go (logins n next) e = rw e h
+      go (folder class client next) e = rw e h
+      go ill e = rw e h
+      go (request kind login o next) e = rw e (serial-kept r matrix (session.request kind login o) log h)
+
+  steps-plain : (k : ℕ) (r : Register) (place : ℕ) (matrix : List ℕ) (log : Log) → log .serial ≤ 65535
+      → stepsBy k text r place matrix log ≡ plainBy k text r place matrix log
+  unfolding stepsBy plainBy
+  steps-plain zero r place matrix log h = refl
+  steps-plain (suc k) r place matrix log h =
+      let s = stepped text r place matrix log in
+      rw (shown-text (s .text) (fits r place matrix log h), steps-plain k r (s .place) (s .matrix) (s .log) (step-serial r place matrix log h))
+
+  -- The steps from a place on, with fuel that is enough, print the lines of the requests there and what ends the run.
+  abbrev Served : Register → ℕ → Type 0
+  Served r k =
+      (place : ℕ) (matrix : List ℕ) (log : Log) → length text ≤ place + k
+      → plainBy (suc k) text r place matrix log
+      ≡ linesText (session r matrix log (askedBy k text place .requests) .lines) ++ ending text (askedBy k text place .place)
+
+  ahead : (item : Item) (place : ℕ) → lineAt text place ≡ item → Ahead text place item
+  ahead item place e = rw (← e) (line-ahead text place)
+
+  end-served : (r : Register) (item : Item) (place : ℕ) (matrix : List ℕ) (log : Log) → lineAt text place ≡ item → length text ≤ place
+      → plainBy 1 text r place matrix log ≡ ending text place
+  unfolding plainBy stepped
+  end-served r (logins n next) place matrix log e h = rw e (append-nil (ending text place))
+  end-served r (folder class client next) place matrix log e h = rw e (append-nil (ending text place))
+  end-served r ill place matrix log e h = rw e (append-nil (ending text place))
+  end-served r (request kind login o next) place matrix log e h = let on = ahead (request kind login o next) place e in absurd (omega (arith, on .0, on .1))
+
+  line-served : (r : Register) (k : ℕ) → Served r k → (item : Item) (place : ℕ) (matrix : List ℕ) (log : Log) → lineAt text place ≡ item
+      → length text ≤ place + suc k
+      → plainBy (suc (suc k)) text r place matrix log
+      ≡ linesText (session r matrix log (askedBy (suc k) text place .requests) .lines) ++ ending text (askedBy (suc k) text place .place)
+  unfolding plainBy stepped askedBy session linesText
+  line-served r k ih (logins n next) place matrix log e h = rw e (append-nil (ending text place))
+  line-served r k ih (folder class client next) place matrix log e h = rw e (append-nil (ending text place))
+  line-served r k ih ill place matrix log e h = rw e (append-nil (ending text place))
+  line-served r k ih (request kind login o next) place matrix log e h =
+      let x : Outcome = outcome r matrix (session.request kind login o) log in
+      let on = ahead (request kind login o next) place e in
+      let rest = ih next (x .matrix) (x .log) (omega (arith, on .0)) in
+      rw e (ap (λ more. lineText (lineOf log x) ++ more) rest ∙ sym (append-assoc (lineText (lineOf log x)) _ _))
+
+  steps-served : (r : Register) (k : ℕ) → Served r k
+  unfolding askedBy session linesText
+  steps-served r zero place matrix log h = end-served r (lineAt text place) place matrix log refl (omega arith)
+  steps-served r (suc k) place matrix log h = line-served r k (steps-served r k) (lineAt text place) place matrix log refl h
+
+  -- ---- the opening
+
+  -- The register is handed back as it was filed.
+  accepted-sizes : (r : Register) → eqb (registerAnswer r .number) 0 ≡ true → (folders r ≤ 512) × (length (r .clients) ≡ folders r)
+  accepted-sizes r e =
+      let range = in-range r (eqb-true (registerAnswer r .number) 0 e) in
+      let same = both (leb 1 (r .logins) && leb (r .logins) 128 && leb 1 (folders r) && leb (folders r) 512) (eqb (folders r) (length (r .clients))) range in
+      let few = both (leb 1 (r .logins) && leb (r .logins) 128 && leb 1 (folders r)) (leb (folders r) 512) (same .0) in
+      (leb-true (folders r) 512 (few .1), sym (eqb-true (folders r) (length (r .clients)) (same .1)))
+
+  register-again : (r : Register) → (folders r ≤ 512) × (length (r .clients) ≡ folders r)
+      → registerOf (r .logins) (take (folders r) (sets (replicate 512 0) 0 (r .classes))) (take (folders r) (sets (replicate 512 0) 0 (r .clients))) ≡ r
+  register-again r (few, same) =
+      let whole = length-replicate {A = ℕ} 512 0 in
+      rw (taken (replicate 512 0) (r .classes) (rw whole few), ← same, taken (replicate 512 0) (r .clients) (rw (whole, same) few))
+
+  checked-whole : (b : Bool) (r : Register) (place : ℕ) → eqb (registerAnswer r .number) 0 ≡ b → length (openedWith r place .text) ≤ 4096
+      → runOf text (openedWith r place) ≡ checkedThen r (served r text place)
+  unfolding openedWith checkedThen served askedAt
+  checked-whole true r place e h =
+      rw (e, register-again r (accepted-sizes r e), shown-text [] (omega arith))
+      (steps-plain (suc (length text)) r place (replicate (r .logins * folders r) 0) newLog (omega arith)
+      ∙ steps-served r (length text) place (replicate (r .logins * folders r) 0) newLog (omega arith))
+  checked-whole false r place e h = rw e (closed-whole text (badRegister (registerAnswer r)) (rw e at h))
+
+  filed-whole : (b : Bool) (p : ℕ) (f : Filed) → (isRequest (lineAt text (f .place)) || leb (length text) (f .place)) ≡ b
+      → length (openedOn p text f .text) ≤ 4096 → runOf text (openedOn p text f) ≡ filedThen p text f
+  unfolding openedOn filedThen
+  filed-whole true p f e h =
+      let r = registerOf p (f .classes) (f .clients) in
+      rw e (checked-whole (eqb (registerAnswer r .number) 0) r (f .place) refl (rw e at h))
+  filed-whole false p f e h = rw e (closed-whole text (badLine (lineNumber text (f .place))) (rw e at h))
+
+  first-whole : (item : Item) → length (firstOn item text .text) ≤ 4096 → runOf text (firstOn item text) ≡ firstThen item text
+  first-whole (logins p next) h =
+      let f = filedAt text next in filed-whole (isRequest (lineAt text (f .place)) || leb (length text) (f .place)) p f refl h
+  first-whole (folder class client next) h = closed-whole text (badLine 1) h
+  first-whole (request kind login o next) h = closed-whole text (badLine 1) h
+  first-whole ill h = closed-whole text (badLine 1) h
+
+output-whole : (text : List ℕ) (b : Bool) → ltb 65536 (length text) ≡ b → length (opened text .text) ≤ 4096 → run text ≡ output text
+unfolding run opened output
+output-whole text true e h = rw e (closed-whole text inputTooLong (rw e at h))
+output-whole text false e h =
+    let short : length text < 2 ^ 64 = omega (arith, ltb-false 65536 (length text) e) in
+    rw e (first-whole text (λ r place matrix log. step-fits text r place matrix log short) (lineAt text 0) (rw e at h))
+
+pub joined : Joined
+joined =
+    record {
+      whole = λ text. output-whole text (ltb 65536 (length text)) refl (opening-fits text);
+      opening-fits = opening-fits;
+      step-fits = step-fits;
+    }

@@ -1,0 +1,16 @@
+pub mod Digits
+pub mod Ended
+pub mod Onward
+pub mod Decimal
+pub mod Spaced
+pub mod Printed
+pub mod ListFrom
+pub mod RecordLine
+pub mod LoggedLine
+pub mod Filed
+pub mod Arms
+pub mod Opened
+pub mod Stepped
+pub mod Small
+pub mod Fits
+pub mod Joined

@@ -1,0 +1,114 @@
+-- What the desk prints for a whole input (document 01, 'The desk program').
+use Prim.Native.Nat.{ℕ, zero, suc, _*_}
+use mathlib.Core.Bool.{Bool, true, false, cond, _||_}
+use mathlib.Core.List.{List, [], _∷_, _++_}
+use lib.Dec.{eqb, leb, ltb}
+use lib.ListN.{length, replicate}
+use Rattle.register.specs.Register.{Register, registerOf, folders, registerAnswer}
+use Rattle.policy.specs.Outcome.{Request}
+use Rattle.policy.specs.Session.{newLog, session}
+use Rattle.policy.specs.Session as session
+use Rattle.desk_core.specs.Lines.{Item, logins, folder, request, ill, lineAt, lineNumber}
+use Rattle.desk_core.specs.Text.{inputTooLong, badLine, badRegister, linesText}
+
+-- ---- the folders
+
+-- The labels that lines `F class client` give, and the place after the last of these lines.
+pub record Filed : Type 0 where
+  pub classes : List ℕ
+  pub clients : List ℕ
+  pub place : ℕ
+
+abbrev pub filed : List ℕ → List ℕ → ℕ → Filed
+filed classes clients place =
+    record {
+      classes = classes;
+      clients = clients;
+      place = place;
+    }
+
+-- A folder's line is put before the folders that follow; any other line ends them.
+abbrev pub filedOn : Item → ℕ → (ℕ → Filed) → Filed
+filedOn (folder class client next) place more = filed (class ∷ more next .classes) (client ∷ more next .clients) (more next .place)
+filedOn (logins n next) place more = filed [] [] place
+filedOn (request kind login o next) place more = filed [] [] place
+filedOn ill place more = filed [] [] place
+
+-- The folders from a place on. Fuel that is the text's length is enough, since every line has bytes.
+unfoldable pub filedBy : (fuel : ℕ) → List ℕ → ℕ → Filed
+filedBy zero text place = filed [] [] place
+filedBy (suc fuel) text place = filedOn (lineAt text place) place (filedBy fuel text)
+
+unfoldable pub filedAt : List ℕ → ℕ → Filed
+filedAt text place = filedBy (length text) text place
+
+-- ---- the requests
+
+-- The requests that lines ask for, and the place after the last of these lines.
+pub record Asked : Type 0 where
+  pub requests : List Request
+  pub place : ℕ
+
+abbrev pub asked : List Request → ℕ → Asked
+asked requests place =
+    record {
+      requests = requests;
+      place = place;
+    }
+
+-- A request's line is put before the requests that follow; any other line ends them.
+abbrev pub askedOn : Item → ℕ → (ℕ → Asked) → Asked
+askedOn (request kind login o next) place more = asked (session.request kind login o ∷ more next .requests) (more next .place)
+askedOn (logins n next) place more = asked [] place
+askedOn (folder class client next) place more = asked [] place
+askedOn ill place more = asked [] place
+
+-- The requests from a place on.
+unfoldable pub askedBy : (fuel : ℕ) → List ℕ → ℕ → Asked
+askedBy zero text place = asked [] place
+askedBy (suc fuel) text place = askedOn (lineAt text place) place (askedBy fuel text)
+
+unfoldable pub askedAt : List ℕ → ℕ → Asked
+askedAt text place = askedBy (length text) text place
+
+-- ---- the output
+
+-- What ends the run at a place: nothing at the input's end; else a line that is ill-formed or misplaced there.
+unfoldable pub ending : List ℕ → ℕ → List ℕ
+ending text place = cond (leb (length text) place) [] (badLine (lineNumber text place))
+
+-- What the requests print, with a blank matrix and a new log, and then what ends the run.
+unfoldable pub served : Register → List ℕ → ℕ → List ℕ
+served r text place =
+    linesText (session r (replicate (r .logins * folders r) 0) newLog (askedAt text place .requests) .lines)
+    ++ ending text (askedAt text place .place)
+
+-- The register's check: 'its refusal prints `register`, the number and the folders carried, and ends the run'.
+unfoldable pub checkedThen : Register → List ℕ → List ℕ
+checkedThen r rest = cond (eqb (registerAnswer r .number) 0) rest (badRegister (registerAnswer r))
+
+-- Whether a line is a request.
+abbrev pub isRequest : Item → Bool
+isRequest (request kind login o next) = true
+isRequest (logins n next) = false
+isRequest (folder class client next) = false
+isRequest ill = false
+
+-- After the folders: 'the register is checked at the first request or at the end', and the requests follow; any other line is ill-formed or
+-- misplaced.
+unfoldable pub filedThen : (p : ℕ) → List ℕ → Filed → List ℕ
+filedThen p text f =
+    cond (isRequest (lineAt text (f .place)) || leb (length text) (f .place))
+    (checkedThen (registerOf p (f .classes) (f .clients)) (served (registerOf p (f .classes) (f .clients)) text (f .place)))
+    (badLine (lineNumber text (f .place)))
+
+-- 'First `P n`.'
+abbrev pub firstThen : Item → List ℕ → List ℕ
+firstThen (logins p next) text = filedThen p text (filedAt text next)
+firstThen (folder class client next) text = badLine 1
+firstThen (request kind login o next) text = badLine 1
+firstThen ill text = badLine 1
+
+-- The whole output. 'At most 65,536 bytes (else it prints `input 41`).'
+unfoldable pub output : List ℕ → List ℕ
+output text = cond (ltb 65536 (length text)) inputTooLong (firstThen (lineAt text 0) text)

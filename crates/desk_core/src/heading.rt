@@ -1,0 +1,148 @@
+// The lines before the requests.
+use crate::Opening;
+use crate::Text;
+use crate::lines;
+use crate::lines::Line;
+use crate::printing;
+use register::Verdict;
+ghost use Prim.Native.Nat.{ℕ};
+ghost use mathlib.Core.Path.{_≡_};
+ghost use mathlib.Core.Bool.{_||_};
+ghost use mathlib.Core.List.{List};
+ghost use lib.Dec.{leb};
+ghost use lib.ListN.{length, replicate, set};
+ghost use lib.Seq.{sets};
+ghost use Rattle.register.specs.Register.{registerOf};
+ghost use Rattle.desk_core.specs.Lines.{lineAt};
+ghost use Rattle.desk_core.specs.Output.{filedAt, isRequest, ending};
+ghost use Rattle.desk_core.specs.Step.{closing, openedWith, openedOn, firstOn, openingOf, textOf};
+
+// How many folders were filed, and the place after their lines.
+struct Filing {
+    folders: usize,
+    place: usize,
+}
+
+// Stores a folder's class or client, if it is one of the first 512: a register with more is refused whatever they are.
+fn store(list: &mut [u16], folder: usize, label: u16)
+    ensures { λ _. ⌜ now (list .exit) ≡ set (now (list .entry)) folder label ⌝ }
+{
+    if folder < list.len() {
+        list[folder] = label;
+    }
+}
+
+// Files the folders from a place on. What the walk has stored are the folders whose lines it has passed.
+fn file(text: &[u8], place: usize, classes: &mut [u16], clients: &mut [u16]) -> Filing
+    ensures { λ r. ⌜ (now (classes .exit) ≡ sets (now (classes .entry)) 0 (filedAt (now (text .entry)) place .classes)) × (now (clients .exit) ≡ sets (now (clients .entry)) 0 (filedAt (now (text .entry)) place .clients)) × (r .folders ≡ length (filedAt (now (text .entry)) place .classes)) × (r .place ≡ filedAt (now (text .entry)) place .place) ⌝ }
+{
+    let mut folders: usize = 0;
+    let mut at = place;
+    loop {
+        match lines::read_line(text, at) {
+            Line::Folder {
+                class,
+                client,
+                next,
+            } => {
+                store(classes, folders, class);
+                store(clients, folders, client);
+                folders += 1;
+                at = next;
+            }
+            _ => {
+                return Filing {
+                    folders: folders,
+                    place: at,
+                }
+            }
+        }
+    }
+}
+
+// The run ends with this text.
+pub(crate) fn closed(text: Text) -> Opening
+    ensures { λ r. ⌜ r ≡ closing text ⌝ }
+{
+    Opening {
+        text: text,
+        onward: false,
+        logins: 0,
+        folders: 0,
+        classes: [0; 512],
+        clients: [0; 512],
+        place: 0,
+    }
+}
+
+// The register's check, at the place of the first request or at the end.
+fn checked(logins: u16, filing: Filing, classes: [u16; 512], clients: [u16; 512]) -> Opening
+    ensures { λ r. ⌜ ((cs ds : List ℕ) → length ds ≡ length cs → filing .folders ≡ length cs → classes ≡ sets (replicate 512 0) 0 cs → clients ≡ sets (replicate 512 0) 0 ds → r ≡ openingOf (openedWith (registerOf logins cs ds) (filing .place))) ⌝ }
+{
+    let folders = filing.folders;
+    if 512 < folders {
+        return closed(printing::bad_register(Verdict::OutOfRange));
+    }
+    let verdict = register::check(logins as usize, &classes[0..folders], &clients[0..folders]);
+    match verdict {
+        Verdict::Accepted => Opening {
+            text: printing::nothing(),
+            onward: true,
+            logins: logins as usize,
+            folders: folders,
+            classes: classes,
+            clients: clients,
+            place: filing.place,
+        },
+        _ => closed(printing::bad_register(verdict)),
+    }
+}
+
+// Whether a request stands at a place, or the text ends there.
+fn filing_ends(text: &[u8], place: usize) -> bool
+    ensures { λ r. ⌜ r ≡ isRequest (lineAt (now (text .entry)) place) || leb (length (now (text .entry))) place ⌝ }
+{
+    match lines::read_line(text, place) {
+        Line::Request {
+            kind: _,
+            login: _,
+            folder: _,
+            next: _,
+        } => true,
+        _ => text.len() <= place,
+    }
+}
+
+// What ends the run at a place: nothing at the text's end, else a line that is ill-formed or misplaced.
+pub(crate) fn ending(text: &[u8], place: usize) -> Text
+    ensures { λ r. ⌜ r ≡ textOf (ending (now (text .entry)) place) ⌝ }
+{
+    if text.len() <= place {
+        return printing::nothing();
+    }
+    printing::bad_line(lines::line_number(text, place))
+}
+
+// From the folders' lines on.
+fn from_folders(text: &[u8], logins: u16, place: usize) -> Opening
+    ensures { λ r. ⌜ r ≡ openingOf (openedOn logins (now (text .entry)) (filedAt (now (text .entry)) place)) ⌝ }
+{
+    let mut classes = [0u16; 512];
+    let mut clients = [0u16; 512];
+    let filing = file(text, place, &mut classes, &mut clients);
+    let end = filing.place;
+    if filing_ends(text, end) {
+        return checked(logins, filing, classes, clients);
+    }
+    closed(ending(text, end))
+}
+
+// From the first line on.
+pub(crate) fn from_first(text: &[u8]) -> Opening
+    ensures { λ r. ⌜ r ≡ openingOf (firstOn (lineAt (now (text .entry)) 0) (now (text .entry))) ⌝ }
+{
+    match lines::read_line(text, 0) {
+        Line::Logins(n, next) => from_folders(text, n, next),
+        _ => closed(printing::bad_line(1)),
+    }
+}

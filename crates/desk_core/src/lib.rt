@@ -1,0 +1,103 @@
+// The desk's text interface over the monitor (document 01, 'The desk program'). The output is printed in steps: `open` takes the input up to
+// its first request, and `step` one line after the other from there.
+use ids::FolderNo;
+use ids::LoginNo;
+use lines::Line;
+ghost use mathlib.Core.Path.{_≡_};
+ghost use Rattle.register.specs.Register.{registerOf};
+ghost use Rattle.monitor.specs.Reply.{logOf};
+ghost use Rattle.desk_core.specs.Step.{opened, openingOf, stepped, leftBy};
+
+mod lines; // a line of the input, read
+mod heading; // the lines before the requests
+mod printing; // numbers and lines, printed
+mod serving; // a request's line
+
+// A printed text: its bytes from the start of the buffer, zeros after them.
+pub struct Text {
+    pub bytes: [u8; 4096],
+    pub len: usize,
+}
+
+// The input up to its first request, or up to its end: what is printed of it, and, if the run goes on, the register and the place after it.
+pub struct Opening {
+    pub text: Text,
+    pub onward: bool,
+    pub logins: usize,
+    pub folders: usize,
+    pub classes: [u16; 512],
+    pub clients: [u16; 512],
+    pub place: usize,
+}
+
+// What a step prints, whether the run goes on, and the place, the log's end and the serial with which it does.
+pub struct Progress {
+    pub text: Text,
+    pub onward: bool,
+    pub place: usize,
+    pub end: usize,
+    pub serial: u16,
+}
+
+// The input up to its first request, or up to its end: its length, `P n`, the folders, the register's check. Prints the refusal, or nothing.
+pub fn open(text: &[u8]) -> Opening
+    ensures { λ r. ⌜ r ≡ openingOf (opened (now (text .entry))) ⌝ }
+{
+    if 65_536 < text.len() {
+        return heading::closed(printing::input_too_long());
+    }
+    heading::from_first(text)
+}
+
+// The line at a place, after the opening. A request is asked of the monitor and its answer printed; anything else ends the run, with
+// `line n 40` unless the input ends there.
+pub fn step(
+    text: &[u8],
+    place: usize,
+    logins: usize,
+    classes: &[u16],
+    clients: &[u16],
+    matrix: &mut [u8],
+    log: &mut [u8],
+    end: usize,
+    serial: u16,
+) -> Progress
+    ensures { λ r. ⌜ record { step = r; matrix = now (matrix .exit); log = now (log .exit) } ≡ leftBy (stepped (now (text .entry)) (registerOf logins (now (classes .entry)) (now (clients .entry))) place (now (matrix .entry)) (logOf (now (log .entry)) end serial)) ⌝ }
+{
+    match lines::read_line(text, place) {
+        Line::Request {
+            kind,
+            login,
+            folder,
+            next,
+        } => {
+            let reply = monitor::request(
+                logins,
+                classes,
+                clients,
+                matrix,
+                LoginNo(login),
+                FolderNo(folder),
+                kind,
+                log,
+                end,
+                serial,
+            );
+            let given = reply.answer;
+            Progress {
+                text: serving::answer_line(given, log, end),
+                onward: true,
+                place: next,
+                end: reply.end,
+                serial: reply.serial,
+            }
+        }
+        _ => Progress {
+            text: heading::ending(text, place),
+            onward: false,
+            place: place,
+            end: end,
+            serial: serial,
+        },
+    }
+}
