@@ -3,30 +3,36 @@ use desk_core::Opening;
 use desk_core::Text;
 use libc::STDIN_FILENO;
 use libc::STDOUT_FILENO;
+ghost use mathlib.Core.Path.{_≡_};
+ghost use lib.ListN.{length};
 
 fn main() {
     // one byte more than the desk takes, so that a longer input is seen to be one
     let mut input = [0u8; 65537];
     let n = io::read_full(STDIN_FILENO, &mut input);
-    let opening = desk_core::open(&input[..n]);
+    let opening = desk_core::open(&input[0..n]);
     let text = opening.text;
     if show(text) & opening.onward {
-        serve(&input[..n], opening);
+        serve(&input[0..n], opening);
     }
 }
 
 // Writes a printed text, which is never longer than its buffer; false if it could not be written.
-fn show(text: Text) -> bool {
+fn show(text: Text) -> bool
+    requires { ⌜ length (text .bytes) ≡ 4096 ⌝ }
+{
     let bytes = text.bytes;
     let n = text.len;
     if 4096 < n {
         return false;
     }
-    io::write_all(STDOUT_FILENO, &bytes[..n])
+    io::write_all(STDOUT_FILENO, &bytes[0..n])
 }
 
 // The requests, with a blank matrix of P times F cells and an empty log.
-fn serve(input: &[u8], opening: Opening) {
+fn serve(input: &[u8], opening: Opening)
+    requires { ⌜ (length (opening .classes) ≡ 512) × (length (opening .clients) ≡ 512) ⌝ }
+{
     let folders = opening.folders;
     let logins = opening.logins;
     let classes = opening.classes;
@@ -34,18 +40,22 @@ fn serve(input: &[u8], opening: Opening) {
     let mut matrix = [0u8; 65536];
     let mut log = [0u8; 65536];
     // an accepted register has no more
-    if (folders <= 512) & (logins <= 128) {
-        let cells = logins * folders;
-        run(
-            input,
-            opening.place,
-            logins,
-            &classes[..folders],
-            &clients[..folders],
-            &mut matrix[..cells],
-            &mut log,
-        );
+    if 512 < folders {
+        return;
     }
+    if 128 < logins {
+        return;
+    }
+    let cells = logins * folders;
+    run(
+        input,
+        opening.place,
+        logins,
+        &classes[0..folders],
+        &clients[0..folders],
+        &mut matrix[0..cells],
+        &mut log,
+    );
 }
 
 // Step after step, until the run is over or the output takes no more. One step more than the input has bytes is enough: every line has
