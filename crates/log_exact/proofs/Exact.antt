@@ -8,10 +8,10 @@ use Rattle.audit_log.specs.Record.{recordBytes}
 use Rattle.audit_log.specs.Reader.{stepAt, placeAfter}
 use Rattle.audit_log.specs.WellFormed.{WellFormed, RecordAt, recordAnswer}
 use Rattle.policy.specs.Outcome.{Log, appended}
-use Rattle.log_exact.specs.Exact.{Writing, left, written, entry, Yields, LogExact}
-use Rattle.audit_log.proofs.Reader.{step-writes, step-written, step-yields}
+use Rattle.log_exact.specs.Exact.{Writing, left, written, entry, Lent, walked, Yields, LogExact}
+use Rattle.audit_log.proofs.Reader.{list-written, step-writes, step-written, step-yields}
 use Rattle.log_exact.proofs.Appended.{slice-appended, drop-appended, logged-well-formed, logged-room, logged-left}
-use Rattle.log_exact.proofs.Witness.{witness, entry-witness}
+use Rattle.log_exact.proofs.Witness.{witness, witness-lent, entry-witness}
 
 module _ (w : Writing) where
   room : w .log .end + length (recordBytes (entry w)) ≤ length (w .log .bytes)
@@ -30,20 +30,26 @@ module _ (w : Writing) where
   read-back : (log : List ℕ) (place : ℕ) (rest : List ℕ) → drop place log ≡ written w ++ rest → stepAt log place ≡ recordAnswer place (entry w)
   read-back log place rest h = step-writes log place (entry w) rest fits (h ∙ ap (λ (l : List ℕ). l ++ rest) written-bytes)
 
+  list-back : (log : List ℕ) (place : ℕ) (rest : List ℕ) → drop place log ≡ written w ++ rest → walked log place (entry w) ≡ entry w .list
+  list-back log place rest h = list-written log place (entry w) rest fits (h ∙ ap (λ (l : List ℕ). l ++ rest) written-bytes)
+
   -- In the log that it left they stand at the old end.
   drop-left : drop (w .log .end) (left w .log .bytes) ≡ written w ++ drop (w .log .end + length (recordBytes (entry w))) (w .log .bytes)
   drop-left = rw written-bytes (ap (λ (l : Log). drop (w .log .end) (l .bytes)) appends ∙ drop-appended (w .log) (recordBytes (entry w)) room)
 
 -- A record that stands at a place is the witness's.
-yielded : (log : List ℕ) (place : ℕ) (r : RecordAt log place) → (w : Writing) × Yields log place w
+yielded : (log : List ℕ) (place : ℕ) (r : RecordAt log place) → (w : Writing) × Lent w × Yields log place w
 yielded log place r =
     let w = witness (r .entry) (r .well-formed) in
     let same : entry w ≡ r .entry = entry-witness (r .entry) (r .well-formed) in
-    let bytes : written w ≡ recordBytes (r .entry) = written-bytes w ∙ ap recordBytes same in (
+    let bytes : written w ≡ recordBytes (r .entry) = written-bytes w ∙ ap recordBytes same in
+    let stands : drop place log ≡ written w ++ drop (place + length (written w)) log = r .bytes ∙ ap (λ (l : List ℕ). l ++ drop (place + length l) log) (sym bytes) in (
       w,
+      witness-lent (r .entry) (r .well-formed),
       record {
         fields = step-yields log place r ∙ ap (recordAnswer place) (sym same);
-        bytes = r .bytes ∙ ap (λ (l : List ℕ). l ++ drop (place + length l) log) (sym bytes);
+        list = list-back w log place (drop (place + length (written w)) log) stands;
+        bytes = stands;
       },
     )
 
@@ -55,6 +61,7 @@ pub log-exact : LogExact
 log-exact =
     record {
       reads = read-back;
+      lists = list-back;
       reads-new = read-left;
       new-end = λ w. ap placeAfter (read-left w) ∙ sym (ap (λ (l : Log). l .end) (appends w));
       accepts = λ log place bs e. yielded log place (step-written log place bs e);

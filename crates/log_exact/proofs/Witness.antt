@@ -1,13 +1,13 @@
 -- For every well-formed record a request that writes it: 128 logins and 512 folders, of which the record's has class 1 and client 1 and
 -- all others client 2, of class 1 for answer 20 and of class 2 otherwise; and rights on just the listed folders, to read for 20 and 21
 -- and to write for 0 and 22.
-use Prim.Native.Nat.{ℕ, _+_, _-_, _*_, _%_, _≤_, _<_}
+use Prim.Native.Nat.{ℕ, zero, suc, _+_, _-_, _*_, _%_, _≤_, _<_}
 use native.Mathlib.Omega.{arith}
 use mathlib.Core.Path.{_≡_, refl, sym, ap, _∙_}
-use mathlib.Core.Logic.{_⊎_, inl, inr}
+use mathlib.Core.Logic.{_⊎_, inl, inr, ⊎-elim}
 use mathlib.Core.Bool.{Bool, true, false, cond, not, _&&_, _||_, and-false, and-assoc, false≢true}
 use mathlib.Core.List.{List, [], _∷_}
-use lib.ListN.{length, getD, drop, replicate, length-replicate}
+use lib.ListN.{length, getD, drop, replicate, length-replicate, List·getD-eq-default}
 use lib.Seq.{getD-take, getD-drop}
 use lib.Dec.{eqb, leb, ltb}
 use borrow.Author.Tests.{le-ltb, lt-leb, le-leb, eqb-true, eqb-false, not-false}
@@ -17,6 +17,7 @@ use Rattle.vocabulary.specs.Those.{those, some, smallest, member}
 use Rattle.vocabulary.proofs.Each.{length-each, getD-each}
 use Rattle.vocabulary.proofs.Those.{those-agree, those-never}
 use Rattle.vocabulary.proofs.Judge.{Passed, judge-append, judge-passed}
+use Rattle.vocabulary.proofs.Order.{lt-or-le}
 use Rattle.vocabulary.proofs.Bools.{neither, eqb-self, true-or-false, cond-same}
 use Rattle.register.specs.Register.{Register, folders, classOf, clientOf, exactlyOne, loneZero, differs, earlier, later, registerChecks, registerAnswer, Accepted}
 use Rattle.audit_log.specs.Record.{Record, recordBytes}
@@ -24,7 +25,7 @@ use Rattle.audit_log.specs.Rule.{canAnswer, badCount}
 use Rattle.audit_log.specs.WellFormed.{WellFormed}
 use Rattle.policy.specs.Rules.{rowOf, cell, writes, revokes, rival, foreign, atStake, rivals, foreigners, stakes, lost}
 use Rattle.policy.specs.Outcome.{Request, Log, requestChecks, wallChecks, wallAnswer, decision, outcome, logged, isLogged, recordOf}
-use Rattle.log_exact.specs.Exact.{Writing, entry}
+use Rattle.log_exact.specs.Exact.{Writing, entry, Lent}
 use Rattle.audit_log.proofs.Reader.{Answers, answer-cases}
 use Rattle.log_exact.proofs.Rising.{rising-without, those-rising}
 
@@ -116,6 +117,23 @@ length-listOf n g = rw (length-each, length-replicate)
 getD-listOf : (n : ℕ) (g : ℕ → ℕ) (i : ℕ) → i < n → getD (listOf n g) i 0 ≡ g i
 unfolding listOf
 getD-listOf n g i h = getD-each (λ i x. g i) (replicate n 0) i 0 (rw length-replicate h)
+
+getD-zeros : (n i : ℕ) → _≡_ {A = ℕ} (getD (replicate n 0) i 0) 0
+getD-zeros zero i = refl
+getD-zeros (suc n) zero = refl
+getD-zeros (suc n) (suc i) = getD-zeros n i
+
+getD-past : (n : ℕ) (g : ℕ → ℕ) (i : ℕ) → n ≤ i → getD (listOf n g) i 0 ≡ 0
+getD-past n g i h = let past : length (listOf n g) ≤ i = rw (length-listOf n g) h in List·getD-eq-default (listOf n g) 0 past
+
+-- A bound on what the function gives is one on the list's elements.
+listOf-most : (n most : ℕ) (g : ℕ → ℕ) → ((i : ℕ) → g i ≤ most) → (i : ℕ) → getD (listOf n g) i 0 ≤ most
+listOf-most n most g h i =
+    ⊎-elim (λ inside. rw (getD-listOf n g i inside) (h i)) (λ past. rw (getD-past n g i past) (omega arith)) (lt-or-le i n)
+
+cond-most : {x y most : ℕ} (b : Bool) → x ≤ most → y ≤ most → cond b x y ≤ most
+cond-most true p q = p
+cond-most false p q = q
 
 module _ (e : Record) where
   -- A read right has to be asked of the listed folders.
@@ -354,6 +372,16 @@ module _ (e : Record) where
           accepted = register-accepted;
           serial = w .serial;
           logged = rw answered told;
+        }
+
+    pub witness-lent : Lent witness
+    unfolding witness
+    witness-lent =
+        record {
+          classes = listOf-most 512 65535 classAt (λ f. cond-most (eqb f (e .folder)) (omega arith) (cond-most (eqb (e .answer) 20) (omega arith) (omega arith)));
+          clients = listOf-most 512 65535 clientAt (λ f. cond-most (eqb f (e .folder)) (omega arith) (omega arith));
+          matrix = λ i. omega (arith, listOf-most 65536 2 (λ k. cellAt (k % 512)) (λ k. cond-most (member (k % 512) (e .list)) (cond-most reading (omega arith) (omega arith)) (omega arith)) i);
+          log = λ i. rw (getD-zeros (length (recordBytes e)) i) (omega arith);
         }
 
     pub entry-witness : entry witness ≡ e

@@ -7,7 +7,7 @@ use Rattle.vocabulary.specs.Answer.{answer}
 use Rattle.register.specs.Register.{Register}
 use Rattle.audit_log.specs.Reader.{checked}
 use Rattle.policy.specs.Outcome.{Request, Log}
-use Rattle.policy.specs.Session.{Line, logged, unlogged, session}
+use Rattle.policy.specs.Session.{Line, Session, logged, unlogged, session}
 
 -- How many of a session's requests were logged.
 abbrev pub records : List Line → ℕ
@@ -29,5 +29,5 @@ emptyLog buffer serial =
 abbrev pub WriterPasses : Type 0
 WriterPasses =
     (r : Register) (matrix buffer : List ℕ) (serial : ℕ) → serial ≤ 65535 → (requests : List Request) →
-    checked (take (session r matrix (emptyLog buffer serial) requests .log .end) (session r matrix (emptyLog buffer serial) requests .log .bytes))
-    ≡ answer 0 (records (session r matrix (emptyLog buffer serial) requests .lines) ∷ [])
+    let s : Session = session r matrix (emptyLog buffer serial) requests in
+    checked (take (s .log .end) (s .log .bytes)) ≡ answer 0 (records (s .lines) ∷ [])

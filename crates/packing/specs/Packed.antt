@@ -36,7 +36,7 @@ cellAt bytes i = from (getD bytes (i / 4) 0) (i % 4) % 4
 unfoldable pub unpacked : ℕ → List ℕ → List ℕ
 unpacked n bytes = tabulate (cellAt bytes) n
 
--- The unused bits of the last byte, as a number, in a packed form of n cells. (Where n is a multiple of 4 no byte has
--- place n, and there are none.)
+-- The unused bits of the last byte, as a number, in a packed form of n cells. (Where the lengths match and n is a multiple of 4, no byte has
+-- place n / 4, and there are none.)
 abbrev pub unused : ℕ → List ℕ → ℕ
 unused n bytes = from (getD bytes (n / 4) 0) (n % 4)
