@@ -5,7 +5,7 @@ use mathlib.Core.Path.{_≡_, refl}
 use lib.ListN.{length, getD, set}
 use native.Mathlib.Nat.{div-one}
 use native.Mathlib.Omega.{arith}
-use Rattle.packing.specs.Packed.{from, cellAt}
+use Rattle.packing.specs.Packed.{byteOf, from, cellAt}
 use Rattle.packing.specs.Tabulate.{filled}
 use Rattle.packing.proofs.Tabulates.{set-four}
 
@@ -23,3 +23,11 @@ pub filled-byte : (bytes l : List ℕ) {out : List ℕ} (k m : ℕ) → out ≡ 
 filled-byte bytes l k m done h at =
     set-four (cellAt bytes) l (4 * k) m done (rw (← div-one (getD bytes k 0)) (cell-at bytes k 0 _ (omega arith) (omega arith)))
     (cell-at bytes k 1 _ (omega arith) refl) (cell-at bytes k 2 _ (omega arith) refl) (cell-at bytes k 3 _ (omega arith) refl) h at
+
+-- Four cells in a word, brought together by one multiplication: their bits stand from bit 24 on, below what is left of the product above
+-- bit 32.
+pub gathered : (a b c d : ℕ) → (a ≤ 3) × (b ≤ 3) × (c ≤ 3) × (d ≤ 3)
+    → 17043520 * (a + 256 * b + 65536 * c + 16777216 * d) / 16777216 % 256 ≡ byteOf a b c d
+gathered a b c d h =
+    let q : 17043520 * (a + 256 * b + 65536 * c + 16777216 * d) / 16777216 ≡ byteOf a b c d + 256 * (b + 260 * c + 66576 * d) = omega arith in
+    rw q (omega arith)

@@ -58,12 +58,14 @@ fn first_above(cells: &[u8]) -> usize
     0
 }
 
-// Four cells in a byte, the first in the lowest two bits.
+// Four cells in a byte, the first in the lowest two bits. The four make a word, which is read at once where they lie in a row; one
+// multiplication, by 2^24 + 2^18 + 2^12 + 2^6, brings their bits together from bit 24 on.
 fn byte_of(a: u8, b: u8, c: u8, d: u8) -> u8
     requires { ⌜ (a ≤ 3) × (b ≤ 3) × (c ≤ 3) × (d ≤ 3) ⌝ }
     ensures { λ r. ⌜ r ≡ byteOf a b c d ⌝ }
 {
-    a + 4 * b + 16 * c + 64 * d
+    let word = a as u64 + 256 * (b as u64) + 65_536 * (c as u64) + 16_777_216 * (d as u64);
+    (17_043_520 * word / 16_777_216 % 256) as u8
 }
 
 // What stands at a place; 0 past the end.
