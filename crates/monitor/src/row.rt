@@ -105,6 +105,17 @@ pub(crate) fn grant(
     }
 }
 
+// Whether any folder loses its write right on a grant.
+pub(crate) fn any_lost(row: &[u8], classes: &[u16], clients: &[u16], o: Label, kind: u16) -> bool
+    requires { ⌜ (length (now classes) ≡ length (now row)) × (length (now clients) ≡ length (now row)) ⌝ }
+    ensures { λ r. ⌜ r ≡ some (lostAt (now (row .entry)) (now (classes .entry)) (now (clients .entry)) o kind) ⌝ }
+{
+    if rules::revokes(kind) {
+        return any(Sort::AtStake, row, classes, clients, o);
+    }
+    false
+}
+
 // Lists the folders that lose their write right on a grant, rising, and says how many.
 pub(crate) fn list_lost(
     row: &[u8],
