@@ -1,15 +1,10 @@
 -- `run` lends matrix and log to each step and ends: the counter goes up to the input's length.
 use Prim.Native.Nat.{_≤_, _-_}
-use mathlib.Core.Path.{_≡_, refl}
+use mathlib.Core.Path.{_≡_}
 use lib.ListN.{length}
-use native.Mathlib.Omega.{arith}
 use borrow.Author.Needs.{needs}
 use Rattle.desk.proofs.run.Statement.{statement}
 use Rattle.desk.proofs.run.Tie as tie
-use Rattle.desk.proofs.run.Reads as reads
-use Rattle.desk.proofs.run.Lts as lts
-use Rattle.desk.proofs.show.Reads as show-reads
-use Rattle.desk_core.proofs.step.Reads as step-reads
 
 abbrev Inv-loop : tie.InvT-loop
 Inv-loop input place logins classes clients matrix₀ log₀ at₀ end₀ serial₀ counter₀ end matrix log at end' serial counter =

@@ -1,11 +1,8 @@
+-- `serve` meets its contract: the matrix and the log that the loop gets are parts of what the desk has room for.
 use Rattle.monitor.proofs.FirstRows.{product-fits}
-use native.Mathlib.Omega.{arith}
 use borrow.Author.Needs.{needs}
 use Rattle.desk.proofs.serve.Statement.{statement}
 use Rattle.desk.proofs.serve.Tie as tie
-use Rattle.desk.proofs.serve.Reads as reads
-use Rattle.desk.proofs.serve.Lts as lts
-use Rattle.desk.proofs.run.Reads as run-reads
 
 returns : tie.Need-returns
 returns c = search needs

@@ -1,3 +1,4 @@
+-- `request` meets its contract: a refusal of the first rows is the outcome; otherwise the row is served in its place in the matrix.
 use Rattle.monitor.proofs.FirstRows.{product-fits, opened, inMatrix, outcome-open, outcome-refused, rowOutcome-labels}
 use Rattle.policy.proofs.Rows.{row-fits, length-rowOf}
 use Rattle.policy.specs.Rules.{rowOf}
@@ -5,79 +6,61 @@ use native.Mathlib.Nat.{add-sub-cancel-left}
 use Rattle.monitor.specs.Reply.{requestOf, logOf}
 use Rattle.register.specs.Register.{registerOf}
 use lib.ListN.{length}
-use mathlib.Core.Path.{_≡_, refl, sym, ap, _∙_}
+use mathlib.Core.Path.{refl, sym, ap}
 use native.Mathlib.Omega.{arith}
 use borrow.Author.Needs.{needs}
 use Rattle.monitor.proofs.request.Statement.{statement}
 use Rattle.monitor.proofs.request.Tie as tie
-use Rattle.monitor.proofs.request.Reads as reads
-use Rattle.monitor.proofs.request.Lts as lts
-use Rattle.monitor.proofs.front.judge_front.Reads as judge-front-reads
-use Rattle.monitor.proofs.serve.serve.Reads as serve-reads
 
--- src/lib.rt:71:9
 judge-front-requires : tie.Need-judge-front-requires
 judge-front-requires c κs = search needs
 
--- src/lib.rt:73:24
 enum-known-judged : tie.Need-enum-known-judged
 enum-known-judged c = search needs
 
--- src/lib.rt:79:17
 enum-told : tie.Need-enum-told
 enum-told c = search needs
 
--- src/lib.rt:80:26
 cast-start : tie.Need-cast-start
 cast-start c = search needs
 
--- src/lib.rt:80:25
 mul-start : tie.Need-mul-start
 mul-start c =
     let o = opened (registerOf (c .before .before .before .before .before .before .before .before .args .logins) (c .before .before .before .before .before .before .before .before .args .classes .now) (c .before .before .before .before .before .before .before .before .args .clients .now)) (c .before .before .before .before .before .before .before .before .args .matrix .now) (requestOf (c .before .before .before .before .before .before .before .before .args .login) (c .before .before .before .before .before .before .before .before .args .folder) (c .before .before .before .before .before .before .before .before .args .kind)) (logOf (c .before .before .before .before .before .before .before .before .args .log .now) (c .before .before .before .before .before .before .before .before .args .end) (c .before .before .before .before .before .before .before .before .args .serial)) (rw (c .before .enum-told .given .1) at (c .before .before .before .judge-front .ensures)) in
     omega (arith, row-fits (c .before .before .before .before .before .before .before .before .args .login .0) (c .before .before .before .before .before .before .before .before .args .logins) (length (c .before .before .before .before .before .before .before .before .args .classes .now)) (o .login-known), product-fits (o .ranged .logins-few) (o .ranged .folders-few))
 
--- src/lib.rt:81:24
 add-stop : tie.Need-add-stop
 add-stop c =
     let o = opened (registerOf (c .before .before .before .before .before .before .before .before .args .logins) (c .before .before .before .before .before .before .before .before .args .classes .now) (c .before .before .before .before .before .before .before .before .args .clients .now)) (c .before .before .before .before .before .before .before .before .args .matrix .now) (requestOf (c .before .before .before .before .before .before .before .before .args .login) (c .before .before .before .before .before .before .before .before .args .folder) (c .before .before .before .before .before .before .before .before .args .kind)) (logOf (c .before .before .before .before .before .before .before .before .args .log .now) (c .before .before .before .before .before .before .before .before .args .end) (c .before .before .before .before .before .before .before .before .args .serial)) (rw (c .before .enum-told .given .1) at (c .before .before .before .judge-front .ensures)) in
     omega (arith, row-fits (c .before .before .before .before .before .before .before .before .args .login .0) (c .before .before .before .before .before .before .before .before .args .logins) (length (c .before .before .before .before .before .before .before .before .args .classes .now)) (o .login-known), product-fits (o .ranged .logins-few) (o .ranged .folders-few))
 
--- src/lib.rt:82:26
 sub-serve : tie.Need-sub-serve
 sub-serve c = search needs
 
--- src/lib.rt:82:26
 part-serve-start : tie.Need-part-serve-start
 part-serve-start c = search needs
 
--- src/lib.rt:82:26
 part-serve-end : tie.Need-part-serve-end
 part-serve-end c =
     let o = opened (registerOf (c .before .before .before .before .before .before .before .before .args .logins) (c .before .before .before .before .before .before .before .before .args .classes .now) (c .before .before .before .before .before .before .before .before .args .clients .now)) (c .before .before .before .before .before .before .before .before .args .matrix .now) (requestOf (c .before .before .before .before .before .before .before .before .args .login) (c .before .before .before .before .before .before .before .before .args .folder) (c .before .before .before .before .before .before .before .before .args .kind)) (logOf (c .before .before .before .before .before .before .before .before .args .log .now) (c .before .before .before .before .before .before .before .before .args .end) (c .before .before .before .before .before .before .before .before .args .serial)) (rw (c .before .enum-told .given .1) at (c .before .before .before .judge-front .ensures)) in
     omega (arith, row-fits (c .before .before .before .before .before .before .before .before .args .login .0) (c .before .before .before .before .before .before .before .before .args .logins) (length (c .before .before .before .before .before .before .before .before .args .classes .now)) (o .login-known), product-fits (o .ranged .logins-few) (o .ranged .folders-few), o .whole)
 
--- src/lib.rt:82:13
 serve-requires : tie.Need-serve-requires
 serve-requires c κs =
     let o = opened (registerOf (c .before .before .before .before .before .before .before .before .before .before .args .logins) (c .before .before .before .before .before .before .before .before .before .before .args .classes .now) (c .before .before .before .before .before .before .before .before .before .before .args .clients .now)) (c .before .before .before .before .before .before .before .before .before .before .args .matrix .now) (requestOf (c .before .before .before .before .before .before .before .before .before .before .args .login) (c .before .before .before .before .before .before .before .before .before .before .args .folder) (c .before .before .before .before .before .before .before .before .before .before .args .kind)) (logOf (c .before .before .before .before .before .before .before .before .before .before .args .log .now) (c .before .before .before .before .before .before .before .before .before .before .args .end) (c .before .before .before .before .before .before .before .before .before .before .args .serial)) (rw (c .before .before .before .enum-told .given .1) at (c .before .before .before .before .before .judge-front .ensures)) in
     let l = length-rowOf (registerOf (c .before .before .before .before .before .before .before .before .before .before .args .logins) (c .before .before .before .before .before .before .before .before .before .before .args .classes .now) (c .before .before .before .before .before .before .before .before .before .before .args .clients .now)) (c .before .before .before .before .before .before .before .before .before .before .args .matrix .now) (o .whole) (c .before .before .before .before .before .before .before .before .before .before .args .login .0) (o .login-known) in
     rw (add-sub-cancel-left, l) (refl, sym (o .ranged .folders-alike), o .ranged .folders-few, o .folder-known)
 
--- src/lib.rt:57:1
 returns : tie.Need-returns
 returns c =
     outcome-refused (registerOf (c .before .before .before .before .before .before .before .before .args .logins) (c .before .before .before .before .before .before .before .before .args .classes .now) (c .before .before .before .before .before .before .before .before .args .clients .now)) (c .before .before .before .before .before .before .before .before .args .matrix .now) (requestOf (c .before .before .before .before .before .before .before .before .args .login) (c .before .before .before .before .before .before .before .before .args .folder) (c .before .before .before .before .before .before .before .before .args .kind)) (logOf (c .before .before .before .before .before .before .before .before .args .log .now) (c .before .before .before .before .before .before .before .before .args .end) (c .before .before .before .before .before .before .before .before .args .serial)) (c .before .judged .given .0 .0) (rw (c .before .judged .given .1) at (c .before .before .before .judge-front .ensures))
 
--- src/lib.rt:57:1
 same-length : tie.Need-same-length
 same-length c = search needs
 
--- src/lib.rt:57:1
 same-length-2 : tie.Need-same-length-2
 same-length-2 c = search needs
 
--- src/lib.rt:57:1
 returns-2 : tie.Need-returns-2
 returns-2 c =
     let o = opened (registerOf (c .before .before .before .before .before .before .before .before .before .before .before .before .before .before .before .args .logins) (c .before .before .before .before .before .before .before .before .before .before .before .before .before .before .before .args .classes .now) (c .before .before .before .before .before .before .before .before .before .before .before .before .before .before .before .args .clients .now)) (c .before .before .before .before .before .before .before .before .before .before .before .before .before .before .before .args .matrix .now) (requestOf (c .before .before .before .before .before .before .before .before .before .before .before .before .before .before .before .args .login) (c .before .before .before .before .before .before .before .before .before .before .before .before .before .before .before .args .folder) (c .before .before .before .before .before .before .before .before .before .before .before .before .before .before .before .args .kind)) (logOf (c .before .before .before .before .before .before .before .before .before .before .before .before .before .before .before .args .log .now) (c .before .before .before .before .before .before .before .before .before .before .before .before .before .before .before .args .end) (c .before .before .before .before .before .before .before .before .before .before .before .before .before .before .before .args .serial)) (rw (c .before .before .before .before .before .before .before .before .enum-told .given .1) at (c .before .before .before .before .before .before .before .before .before .before .judge-front .ensures)) in

@@ -1,13 +1,11 @@
 -- `check` meets its contract: each return is one case of the register's table.
-use Prim.Native.Nat.{_≤_}
 use mathlib.Core.Bool.{true}
 use mathlib.Core.Path.{_≡_, sym, _∙_}
 use native.Mathlib.Omega.{arith}
-use lib.ListN.{length}
 use denote.Ref.{now}
 use borrow.Author.Tests.{not-true, not-false}
 use borrow.Author.Needs.{needs}
-use Rattle.register.specs.Register.{Register, registerOf, folders, inRange, earlier, later}
+use Rattle.register.specs.Register.{Register, registerOf, inRange, earlier, later}
 use Rattle.register.proofs.Answers.{Ranged, inRange-ranged, answer-range, answer-lone, answer-later, answer-accepted}
 use Rattle.register.proofs.check.Statement.{statement}
 use Rattle.register.proofs.check.Tie as tie

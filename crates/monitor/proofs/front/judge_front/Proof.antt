@@ -1,3 +1,4 @@
+-- `judge_front` meets its contract: the register's rows come before the others.
 use Rattle.monitor.proofs.FirstRows.{registered-range, register-open, register-refused}
 use Rattle.monitor.specs.Stages.{frontChecks}
 use Rattle.monitor.specs.Reply.{requestOf}
@@ -6,59 +7,45 @@ use Rattle.register.specs.Register.{registerOf}
 use Rattle.vocabulary.specs.Answer.{answer}
 use lib.ListN.{length}
 use mathlib.Core.List.{[], _∷_}
-use mathlib.Core.Path.{_≡_, refl, sym, ap, _∙_}
+use mathlib.Core.Path.{sym, _∙_}
 use native.Mathlib.Omega.{arith}
 use borrow.Author.Needs.{needs}
 use Rattle.monitor.proofs.front.judge_front.Statement.{statement}
 use Rattle.monitor.proofs.front.judge_front.Tie as tie
-use Rattle.monitor.proofs.front.judge_front.Reads as reads
-use Rattle.monitor.proofs.front.judge_front.Lts as lts
-use Rattle.monitor.proofs.front.known.Reads as known-reads
-use Rattle.register.proofs.check.Reads as check-reads
 
--- src/front.rt:56:9
 check-requires : tie.Need-check-requires
 check-requires c κs = search needs
 
--- src/front.rt:58:47
 enum-told : tie.Need-enum-told
 enum-told c = search needs
 
--- src/front.rt:59:27
 enum-known-verdict : tie.Need-enum-known-verdict
 enum-known-verdict c = search needs
 
--- src/front.rt:60:29
 enum-known-verdict-2 : tie.Need-enum-known-verdict-2
 enum-known-verdict-2 c = search needs
 
--- src/front.rt:61:44
 enum-told-2 : tie.Need-enum-told-2
 enum-told-2 c = search needs
 
--- src/front.rt:61:30
 known-requires : tie.Need-known-requires
 known-requires c κs =
     let e = registered-range (registerOf (c .before .before .before .before .before .args .logins) (c .before .before .before .before .before .args .classes .now) (c .before .before .before .before .before .args .clients .now)) (rw (c .enum-told2 .given .1) at (c .before .before .check .ensures)) in
     let g = inRange-ranged (registerOf (c .before .before .before .before .before .args .logins) (c .before .before .before .before .before .args .classes .now) (c .before .before .before .before .before .args .clients .now)) e in
     (g .logins-few, g .folders-few)
 
--- src/front.rt:45:1
 returns : tie.Need-returns
 returns c =
     register-refused (registerOf (c .before .before .before .before .before .args .logins) (c .before .before .before .before .before .args .classes .now) (c .before .before .before .before .before .args .clients .now)) (frontChecks (c .before .before .before .before .before .args .logins) (length (c .before .before .before .before .before .args .classes .now)) (c .before .before .before .before .before .args .size) (requestOf (c .before .before .before .before .before .args .login) (c .before .before .before .before .before .args .folder) (c .before .before .before .before .before .args .kind))) (answer 0 []) (answer 1 []) (λ z. omega arith) (rw (c .enum-told .given .1) at (c .before .before .check .ensures))
 
--- src/front.rt:45:1
 returns-2 : tie.Need-returns-2
 returns-2 c =
     register-refused (registerOf (c .before .before .before .before .before .before .args .logins) (c .before .before .before .before .before .before .args .classes .now) (c .before .before .before .before .before .before .args .clients .now)) (frontChecks (c .before .before .before .before .before .before .args .logins) (length (c .before .before .before .before .before .before .args .classes .now)) (c .before .before .before .before .before .before .args .size) (requestOf (c .before .before .before .before .before .before .args .login) (c .before .before .before .before .before .before .args .folder) (c .before .before .before .before .before .before .args .kind))) (answer 0 []) (answer 2 (c .before .verdict .given .0 .0 .0 ∷ [])) (λ z. omega arith) (rw (c .before .verdict .given .1) at (c .before .before .before .check .ensures))
 
--- src/front.rt:45:1
 returns-3 : tie.Need-returns-3
 returns-3 c =
     register-refused (registerOf (c .before .before .before .before .before .before .args .logins) (c .before .before .before .before .before .before .args .classes .now) (c .before .before .before .before .before .before .args .clients .now)) (frontChecks (c .before .before .before .before .before .before .args .logins) (length (c .before .before .before .before .before .before .args .classes .now)) (c .before .before .before .before .before .before .args .size) (requestOf (c .before .before .before .before .before .before .args .login) (c .before .before .before .before .before .before .args .folder) (c .before .before .before .before .before .before .args .kind))) (answer 0 []) (answer 3 (c .before .verdict2 .given .0 .0 .0 ∷ c .before .verdict2 .given .0 .1 .0 .0 ∷ [])) (λ z. omega arith) (rw (c .before .verdict2 .given .1) at (c .before .before .before .check .ensures))
 
--- src/front.rt:45:1
 returns-4 : tie.Need-returns-4
 returns-4 c =
     c .known .ensures ∙ sym (register-open (registerOf (c .before .before .before .before .before .before .args .logins) (c .before .before .before .before .before .before .args .classes .now) (c .before .before .before .before .before .before .args .clients .now)) (frontChecks (c .before .before .before .before .before .before .args .logins) (length (c .before .before .before .before .before .before .args .classes .now)) (c .before .before .before .before .before .before .args .size) (requestOf (c .before .before .before .before .before .before .args .login) (c .before .before .before .before .before .before .args .folder) (c .before .before .before .before .before .before .args .kind))) (answer 0 []) (rw (c .before .enum-told2 .given .1) at (c .before .before .before .check .ensures)))

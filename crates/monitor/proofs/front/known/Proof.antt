@@ -1,59 +1,48 @@
+-- `known` meets its contract: each test is a row of the definition.
 use Rattle.monitor.proofs.FirstRows.{product-fits}
 use Rattle.monitor.specs.Stages.{frontChecks}
 use Rattle.vocabulary.specs.Answer.{judge}
 use borrow.Author.Tests.{eq-eqb, ne-eqb, le-leb, lt-leb}
-use mathlib.Core.Path.{_≡_, refl, sym, ap, _∙_}
 use native.Mathlib.Omega.{arith}
 use borrow.Author.Needs.{needs}
 use Rattle.monitor.proofs.front.known.Statement.{statement}
 use Rattle.monitor.proofs.front.known.Tie as tie
-use Rattle.monitor.proofs.front.known.Reads as reads
-use Rattle.monitor.proofs.front.known.Lts as lts
 
--- src/front.rt:26:16
 mul-if1 : tie.Need-mul-if1
 mul-if1 c =
     omega (arith, product-fits (c .pre .0) (c .pre .1))
 
--- src/front.rt:27:9
 returns : tie.Need-returns
 unfolding frontChecks judge
 returns c =
     rw (ne-eqb _ _ (c .if1 .taken))
 
--- src/front.rt:29:18
 cast-if2 : tie.Need-cast-if2
 cast-if2 c = search needs
 
--- src/front.rt:30:9
 returns-2 : tie.Need-returns-2
 unfolding frontChecks judge
 returns-2 c =
     rw (eq-eqb _ _ (c .before .before .if1 .left), le-leb _ _ (c .if2 .taken))
 
--- src/front.rt:32:19
 cast-if3 : tie.Need-cast-if3
 cast-if3 c = search needs
 
--- src/front.rt:33:9
 returns-3 : tie.Need-returns-3
 unfolding frontChecks judge
 returns-3 c =
     rw (eq-eqb _ _ (c .before .before .before .before .if1 .left), lt-leb _ _ (c .before .before .if2 .left), le-leb _ _ (c .if3 .taken))
 
--- src/front.rt:36:9
 returns-4 : tie.Need-returns-4
 unfolding frontChecks judge
 returns-4 c =
     rw (eq-eqb _ _ (c .before .before .before .before .before .if1 .left), lt-leb _ _ (c .before .before .before .if2 .left), lt-leb _ _ (c .before .if3 .left), lt-leb _ _ (c .if4 .taken))
 
--- src/front.rt:39:9
 returns-5 : tie.Need-returns-5
 unfolding frontChecks judge
 returns-5 c =
     rw (eq-eqb _ _ (c .before .before .before .before .before .before .if1 .left), lt-leb _ _ (c .before .before .before .before .if2 .left), lt-leb _ _ (c .before .before .if3 .left), le-leb _ _ (c .before .if4 .left), lt-leb _ _ (c .if5 .taken))
 
--- src/front.rt:22:1
 returns-6 : tie.Need-returns-6
 unfolding frontChecks judge
 returns-6 c =

@@ -9,10 +9,6 @@ use native.Mathlib.Omega.{arith}
 use borrow.Author.Needs.{needs}
 use Rattle.monitor.proofs.row.any.Statement.{statement}
 use Rattle.monitor.proofs.row.any.Tie as tie
-use Rattle.monitor.proofs.row.any.Reads as reads
-use Rattle.monitor.proofs.row.any.Lts as lts
-use Rattle.monitor.proofs.rules.fits.Reads as fits-reads
-use Rattle.register.proofs.labelled.Reads as labelled-reads
 
 abbrev Inv-loop : tie.InvT-loop
 Inv-loop sort row classes clients o seen₀ f₀ seen f =
@@ -21,54 +17,42 @@ Inv-loop sort row classes clients o seen₀ f₀ seen f =
 abbrev μ-loop : tie.MeasureT-loop
 μ-loop sort row classes clients o seen₀ f₀ seen f = length row - f
 
--- src/row.rt:21:5
 loop-holds : tie.Need-loop-holds Inv-loop μ-loop
 unfolding those
 loop-holds c =
     (omega arith, refl)
 
--- src/row.rt:22:41
 shared-slice-read-fits : tie.Need-shared-slice-read-fits Inv-loop μ-loop
 shared-slice-read-fits c = search needs
 
--- src/row.rt:22:68
 mul-labelled : tie.Need-mul-labelled Inv-loop μ-loop
 mul-labelled c = search needs
 
--- src/row.rt:22:68
 shared-slice-read-labelled : tie.Need-shared-slice-read-labelled Inv-loop μ-loop
 shared-slice-read-labelled c = search needs
 
--- src/row.rt:22:80
 mul-labelled-2 : tie.Need-mul-labelled-2 Inv-loop μ-loop
 mul-labelled-2 c = search needs
 
--- src/row.rt:22:80
 shared-slice-read-labelled-2 : tie.Need-shared-slice-read-labelled-2 Inv-loop μ-loop
 shared-slice-read-labelled-2 c = search needs
 
--- src/row.rt:22:49
 labelled-requires : tie.Need-labelled-requires Inv-loop μ-loop
 labelled-requires c κs = search needs
 
--- src/row.rt:22:23
 fits-requires : tie.Need-fits-requires Inv-loop μ-loop
 fits-requires c κs = search needs
 
--- src/row.rt:23:9
 add-f : tie.Need-add-f Inv-loop μ-loop
 add-f c = search needs
 
--- src/row.rt:21:5
 loop-less : tie.Need-loop-less Inv-loop μ-loop
 loop-less c = search needs
 
--- src/row.rt:21:5
 loop-again : tie.Need-loop-again Inv-loop μ-loop
 loop-again c =
     (omega arith, rw (some-those-suc, c .fits2 .ensures, c .before .labelled .ensures, c .before .before .before .before .before .before .loop .inv .1))
 
--- src/row.rt:15:1
 returns : tie.Need-returns Inv-loop μ-loop
 returns c =
     c .before .loop .inv .1 ∙ ap some (those-end _ _ _ (c .loop-test .left) (c .before .loop .inv .0))

@@ -1,29 +1,21 @@
-use mathlib.Core.Path.{_≡_, refl, sym, ap, _∙_}
+-- `any_lost` meets its contract: what is at stake is lost where the kind revokes, and nothing elsewhere.
+use mathlib.Core.Path.{sym, ap, _∙_}
 use Rattle.vocabulary.specs.Those.{some}
 use Rattle.monitor.proofs.Lost.{lostAt-revokes, lostAt-none}
-use native.Mathlib.Omega.{arith}
 use borrow.Author.Needs.{needs}
 use Rattle.monitor.proofs.row.any_lost.Statement.{statement}
 use Rattle.monitor.proofs.row.any_lost.Tie as tie
-use Rattle.monitor.proofs.row.any_lost.Reads as reads
-use Rattle.monitor.proofs.row.any_lost.Lts as lts
-use Rattle.monitor.proofs.row.any.Reads as any-reads
-use Rattle.monitor.proofs.rules.revokes.Reads as revokes-reads
 
--- src/row.rt:113:8
 revokes-requires : tie.Need-revokes-requires
 revokes-requires c κs = search needs
 
--- src/row.rt:114:9
 any-requires : tie.Need-any-requires
 any-requires c κs = search needs
 
--- src/row.rt:114:9
 returns : tie.Need-returns
 returns c =
     c .any .ensures ∙ ap some (sym (lostAt-revokes (c .before .before .before .before .before .before .args .row .now) (c .before .before .before .before .before .before .args .classes .now) (c .before .before .before .before .before .before .args .clients .now) (c .before .before .before .before .before .before .args .o) (c .before .before .before .before .before .before .args .kind) (sym (c .before .before .revokes .ensures) ∙ c .before .if1 .taken)))
 
--- src/row.rt:109:1
 returns-2 : tie.Need-returns-2
 returns-2 c =
     ap some (sym (lostAt-none (c .before .before .before .before .before .args .row .now) (c .before .before .before .before .before .args .classes .now) (c .before .before .before .before .before .args .clients .now) (c .before .before .before .before .before .args .o) (c .before .before .before .before .before .args .kind) (sym (c .before .revokes .ensures) ∙ c .if1 .left)))

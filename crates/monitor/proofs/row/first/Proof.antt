@@ -1,3 +1,4 @@
+-- `first` meets its contract: no folder that the walk has passed is of the sort.
 use Rattle.monitor.specs.Stages.{fitsAt}
 use Rattle.vocabulary.specs.Those.{those}
 use Rattle.vocabulary.proofs.Those.{first-end, those-none, first-found}
@@ -9,10 +10,6 @@ use native.Mathlib.Omega.{arith}
 use borrow.Author.Needs.{needs}
 use Rattle.monitor.proofs.row.first.Statement.{statement}
 use Rattle.monitor.proofs.row.first.Tie as tie
-use Rattle.monitor.proofs.row.first.Reads as reads
-use Rattle.monitor.proofs.row.first.Lts as lts
-use Rattle.monitor.proofs.rules.fits.Reads as fits-reads
-use Rattle.register.proofs.labelled.Reads as labelled-reads
 
 abbrev Inv-loop : tie.InvT-loop
 Inv-loop sort row classes clients o f₀ f =
@@ -21,59 +18,46 @@ Inv-loop sort row classes clients o f₀ f =
 abbrev μ-loop : tie.MeasureT-loop
 μ-loop sort row classes clients o f₀ f = length row - f
 
--- src/row.rt:16:5
 loop-holds : tie.Need-loop-holds Inv-loop μ-loop
 unfolding those
 loop-holds c =
     (omega arith, refl)
 
--- src/row.rt:17:30
 shared-slice-read-fits : tie.Need-shared-slice-read-fits Inv-loop μ-loop
 shared-slice-read-fits c = search needs
 
--- src/row.rt:17:57
 mul-labelled : tie.Need-mul-labelled Inv-loop μ-loop
 mul-labelled c = search needs
 
--- src/row.rt:17:57
 shared-slice-read-labelled : tie.Need-shared-slice-read-labelled Inv-loop μ-loop
 shared-slice-read-labelled c = search needs
 
--- src/row.rt:17:69
 mul-labelled-2 : tie.Need-mul-labelled-2 Inv-loop μ-loop
 mul-labelled-2 c = search needs
 
--- src/row.rt:17:69
 shared-slice-read-labelled-2 : tie.Need-shared-slice-read-labelled-2 Inv-loop μ-loop
 shared-slice-read-labelled-2 c = search needs
 
--- src/row.rt:17:38
 labelled-requires : tie.Need-labelled-requires Inv-loop μ-loop
 labelled-requires c κs = search needs
 
--- src/row.rt:17:12
 fits-requires : tie.Need-fits-requires Inv-loop μ-loop
 fits-requires c κs = search needs
 
--- src/row.rt:18:13
 returns : tie.Need-returns Inv-loop μ-loop
 returns c =
     sym (first-found _ _ _ _ (c .before .before .before .before .before .before .before .loop .inv .1) (rw (c .before .before .labelled .ensures) at (sym (c .before .fits2 .ensures) ∙ c .if1 .taken)) (c .before .before .before .before .before .before .loop-test .taken))
 
--- src/row.rt:20:9
 add-f : tie.Need-add-f Inv-loop μ-loop
 add-f c = search needs
 
--- src/row.rt:16:5
 loop-less : tie.Need-loop-less Inv-loop μ-loop
 loop-less c = search needs
 
--- src/row.rt:16:5
 loop-again : tie.Need-loop-again Inv-loop μ-loop
 loop-again c =
     (omega arith, those-none _ _ (c .before .before .before .before .before .before .before .loop .inv .1) (rw (c .before .before .labelled .ensures) at (sym (c .before .fits2 .ensures) ∙ c .if1 .left)))
 
--- src/row.rt:11:1
 returns-2 : tie.Need-returns-2 Inv-loop μ-loop
 returns-2 c =
     sym (first-end _ _ _ (c .before .loop .inv .1) (c .before .loop .inv .0) (c .loop-test .left))

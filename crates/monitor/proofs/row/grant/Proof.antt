@@ -1,16 +1,13 @@
+-- `grant` meets its contract: what the walk has passed is changed, the rest is as it was.
 use lib.ListN.{length, length-set}
 use Rattle.monitor.specs.Stages.{leftAt}
-use Rattle.vocabulary.proofs.Each.{upTo, upTo-next, upTo-all, length-upTo}
-use mathlib.Core.Path.{_≡_, refl, sym, ap, _∙_}
-use Prim.Native.Nat.{_≤_, _-_, _+_, _<_}
+use Rattle.vocabulary.proofs.Each.{upTo, upTo-next, upTo-all}
+use mathlib.Core.Path.{_≡_, refl, _∙_}
+use Prim.Native.Nat.{_≤_, _-_}
 use native.Mathlib.Omega.{arith}
 use borrow.Author.Needs.{needs}
 use Rattle.monitor.proofs.row.grant.Statement.{statement}
 use Rattle.monitor.proofs.row.grant.Tie as tie
-use Rattle.monitor.proofs.row.grant.Reads as reads
-use Rattle.monitor.proofs.row.grant.Lts as lts
-use Rattle.monitor.proofs.rules.cell_left.Reads as cell-left-reads
-use Rattle.register.proofs.labelled.Reads as labelled-reads
 
 abbrev Inv-loop : tie.InvT-loop
 Inv-loop row₀ classes clients o folder kind f₀ row f =
@@ -19,55 +16,43 @@ Inv-loop row₀ classes clients o folder kind f₀ row f =
 abbrev μ-loop : tie.MeasureT-loop
 μ-loop row₀ classes clients o folder kind f₀ row f = length row₀ - f
 
--- src/row.rt:57:5
 loop-holds : tie.Need-loop-holds Inv-loop μ-loop
 unfolding upTo
 loop-holds c =
     (omega arith, (refl, refl))
 
--- src/row.rt:58:35
 slice-read-cell-left : tie.Need-slice-read-cell-left Inv-loop μ-loop
 slice-read-cell-left c =
     search needs
 
--- src/row.rt:58:62
 mul-labelled : tie.Need-mul-labelled Inv-loop μ-loop
 mul-labelled c = search needs
 
--- src/row.rt:58:62
 shared-slice-read-labelled : tie.Need-shared-slice-read-labelled Inv-loop μ-loop
 shared-slice-read-labelled c = search needs
 
--- src/row.rt:58:74
 mul-labelled-2 : tie.Need-mul-labelled-2 Inv-loop μ-loop
 mul-labelled-2 c = search needs
 
--- src/row.rt:58:74
 shared-slice-read-labelled-2 : tie.Need-shared-slice-read-labelled-2 Inv-loop μ-loop
 shared-slice-read-labelled-2 c = search needs
 
--- src/row.rt:58:43
 labelled-requires : tie.Need-labelled-requires Inv-loop μ-loop
 labelled-requires c κs = search needs
 
--- src/row.rt:58:18
 cell-left-requires : tie.Need-cell-left-requires Inv-loop μ-loop
 cell-left-requires c κs = search needs
 
--- src/row.rt:58:9
 slice-write-row : tie.Need-slice-write-row Inv-loop μ-loop
 slice-write-row c = search needs
 
--- src/row.rt:59:9
 add-f : tie.Need-add-f Inv-loop μ-loop
 add-f c = search needs
 
--- src/row.rt:57:5
 loop-less : tie.Need-loop-less Inv-loop μ-loop
 loop-less c =
     omega arith
 
--- src/row.rt:57:5
 loop-again : tie.Need-loop-again Inv-loop μ-loop
 loop-again c = (
   omega arith,
@@ -78,12 +63,10 @@ loop-again c = (
   ),
 )
 
--- src/row.rt:52:1
 same-length : tie.Need-same-length Inv-loop μ-loop
 same-length c =
     c .before .loop .inv .1 .0
 
--- src/row.rt:52:1
 returns : tie.Need-returns Inv-loop μ-loop
 returns c =
     let e : c .before .loop .f ≡ length (c .before .before .before .before .before .args .row .now) = omega arith in

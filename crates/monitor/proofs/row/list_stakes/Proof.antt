@@ -1,20 +1,15 @@
+-- `list_stakes` meets its contract: what is listed so far are the folders at stake that the walk has passed.
 use Rattle.monitor.specs.declared.rules.Sort.{Sort}
 use Rattle.monitor.specs.Stages.{fitsAt}
 use Rattle.vocabulary.specs.Those.{those}
 use Rattle.vocabulary.proofs.Those.{those-list}
-use lib.ListN.{length, take, set, length-set}
-use mathlib.Core.Path.{_≡_, refl, sym, ap, _∙_}
-use mathlib.Core.Bool.{cond}
-use Prim.Native.Nat.{_≤_, _-_, _+_, _<_}
+use lib.ListN.{length, take, length-set}
+use mathlib.Core.Path.{_≡_, refl, ap, _∙_}
+use Prim.Native.Nat.{_≤_, _-_}
 use native.Mathlib.Omega.{arith}
 use borrow.Author.Needs.{needs}
 use Rattle.monitor.proofs.row.list_stakes.Statement.{statement}
 use Rattle.monitor.proofs.row.list_stakes.Tie as tie
-use Rattle.monitor.proofs.row.list_stakes.Reads as reads
-use Rattle.monitor.proofs.row.list_stakes.Lts as lts
-use Rattle.monitor.proofs.row.one_if.Reads as one-if-reads
-use Rattle.monitor.proofs.rules.at_stake.Reads as at-stake-reads
-use Rattle.register.proofs.labelled.Reads as labelled-reads
 
 abbrev Inv-loop : tie.InvT-loop
 Inv-loop row classes clients o list₀ n₀ f₀ list n f =
@@ -25,69 +20,53 @@ Inv-loop row classes clients o list₀ n₀ f₀ list n f =
 abbrev μ-loop : tie.MeasureT-loop
 μ-loop row classes clients o list₀ n₀ f₀ list n f = length row - f
 
--- src/row.rt:42:5
 loop-holds : tie.Need-loop-holds Inv-loop μ-loop
 unfolding those
 loop-holds c =
     (omega arith, (omega arith, (refl, refl)))
 
--- src/row.rt:43:37
 shared-slice-read-at-stake : tie.Need-shared-slice-read-at-stake Inv-loop μ-loop
 shared-slice-read-at-stake c = search needs
 
--- src/row.rt:43:64
 mul-labelled : tie.Need-mul-labelled Inv-loop μ-loop
 mul-labelled c = search needs
 
--- src/row.rt:43:64
 shared-slice-read-labelled : tie.Need-shared-slice-read-labelled Inv-loop μ-loop
 shared-slice-read-labelled c = search needs
 
--- src/row.rt:43:76
 mul-labelled-2 : tie.Need-mul-labelled-2 Inv-loop μ-loop
 mul-labelled-2 c = search needs
 
--- src/row.rt:43:76
 shared-slice-read-labelled-2 : tie.Need-shared-slice-read-labelled-2 Inv-loop μ-loop
 shared-slice-read-labelled-2 c = search needs
 
--- src/row.rt:43:45
 labelled-requires : tie.Need-labelled-requires Inv-loop μ-loop
 labelled-requires c κs = search needs
 
--- src/row.rt:43:13
 at-stake-requires : tie.Need-at-stake-requires Inv-loop μ-loop
 at-stake-requires c κs = search needs
 
--- src/row.rt:44:19
 cast-list : tie.Need-cast-list Inv-loop μ-loop
 cast-list c = search needs
 
--- src/row.rt:44:9
 mul-list : tie.Need-mul-list Inv-loop μ-loop
 mul-list c = search needs
 
--- src/row.rt:44:9
 slice-write-list : tie.Need-slice-write-list Inv-loop μ-loop
 slice-write-list c = search needs
 
--- src/row.rt:45:14
 one-if-requires : tie.Need-one-if-requires Inv-loop μ-loop
 one-if-requires c κs = search needs
 
--- src/row.rt:45:9
 add-n : tie.Need-add-n Inv-loop μ-loop
 add-n c = search needs
 
--- src/row.rt:46:9
 add-f : tie.Need-add-f Inv-loop μ-loop
 add-f c = search needs
 
--- src/row.rt:42:5
 loop-less : tie.Need-loop-less Inv-loop μ-loop
 loop-less c = search needs
 
--- src/row.rt:42:5
 loop-again : tie.Need-loop-again Inv-loop μ-loop
 loop-again c =
     let b = rw (c .before .before .labelled .ensures) at (c .before .at-stake .ensures) in (
@@ -102,12 +81,10 @@ loop-again c =
       ),
     )
 
--- src/row.rt:36:1
 same-length : tie.Need-same-length Inv-loop μ-loop
 same-length c =
     c .before .loop .inv .1 .1 .0
 
--- src/row.rt:36:1
 returns : tie.Need-returns Inv-loop μ-loop
 returns c =
     (c .before .loop .inv .1 .1 .1 ∙ ap (those (fitsAt Sort.AtStake (c .before .before .before .before .before .before .args .row .now) (c .before .before .before .before .before .before .args .classes .now) (c .before .before .before .before .before .before .args .clients .now) (c .before .before .before .before .before .before .args .o))) (omega arith), omega arith)

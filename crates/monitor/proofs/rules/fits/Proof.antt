@@ -1,57 +1,41 @@
-use native.Mathlib.Omega.{arith}
+-- `fits` meets its contract: sort by sort.
 use borrow.Author.Needs.{needs}
 use Rattle.monitor.proofs.rules.fits.Statement.{statement}
 use Rattle.monitor.proofs.rules.fits.Tie as tie
-use Rattle.monitor.proofs.rules.fits.Reads as reads
-use Rattle.monitor.proofs.rules.fits.Lts as lts
-use Rattle.monitor.proofs.rules.at_stake.Reads as at-stake-reads
-use Rattle.monitor.proofs.rules.is_foreign.Reads as is-foreign-reads
-use Rattle.monitor.proofs.rules.is_rival.Reads as is-rival-reads
 
--- src/rules.rt:63:27
 enum-told : tie.Need-enum-told
 enum-told c = search needs
 
--- src/rules.rt:64:24
 enum-told-2 : tie.Need-enum-told-2
 enum-told-2 c = search needs
 
--- src/rules.rt:64:24
 is-rival-requires : tie.Need-is-rival-requires
 is-rival-requires c κs = search needs
 
--- src/rules.rt:65:26
 enum-told-3 : tie.Need-enum-told-3
 enum-told-3 c = search needs
 
--- src/rules.rt:65:26
 is-foreign-requires : tie.Need-is-foreign-requires
 is-foreign-requires c κs = search needs
 
--- src/rules.rt:66:26
 enum-told-4 : tie.Need-enum-told-4
 enum-told-4 c = search needs
 
--- src/rules.rt:66:26
 at-stake-requires : tie.Need-at-stake-requires
 at-stake-requires c κs = search needs
 
--- src/rules.rt:59:1
 returns : tie.Need-returns
 returns c =
     rw (c .enum-told .given .1)
 
--- src/rules.rt:59:1
 returns-2 : tie.Need-returns-2
 returns-2 c =
     rw (c .before .enum-told2 .given .1) (c .is-rival .ensures)
 
--- src/rules.rt:59:1
 returns-3 : tie.Need-returns-3
 returns-3 c =
     rw (c .before .enum-told3 .given .1) (c .is-foreign .ensures)
 
--- src/rules.rt:59:1
 returns-4 : tie.Need-returns-4
 returns-4 c =
     rw (c .before .enum-told4 .given .1) (c .at-stake .ensures)

@@ -1,109 +1,81 @@
+-- `rule` meets its contract: each ruling is carried out as the rules log it.
 use Rattle.monitor.proofs.Logged.{logged-frame}
 use Rattle.monitor.specs.Reply.{requestOf, logOf, replied}
 use Rattle.vocabulary.specs.Answer.{answer}
 use mathlib.Core.List.{[], _∷_}
-use mathlib.Core.Path.{_≡_, refl, sym, ap, _∙_}
-use native.Mathlib.Omega.{arith}
 use borrow.Author.Needs.{needs}
 use Rattle.monitor.proofs.serve.rule.Statement.{statement}
 use Rattle.monitor.proofs.serve.rule.Tie as tie
-use Rattle.monitor.proofs.serve.rule.Reads as reads
-use Rattle.monitor.proofs.serve.rule.Lts as lts
-use Rattle.monitor.proofs.decide.decide.Reads as decide-reads
-use Rattle.monitor.proofs.record.grant.Reads as grant-reads
-use Rattle.monitor.proofs.record.refuse.Reads as refuse-reads
 
--- src/serve.rt:33:56
 cast-decide : tie.Need-cast-decide
 cast-decide c = search needs
 
--- src/serve.rt:33:9
 decide-requires : tie.Need-decide-requires
 decide-requires c κs = search needs
 
--- src/serve.rt:35:42
 enum-told : tie.Need-enum-told
 enum-told c = search needs
 
--- src/serve.rt:35:28
 grant-requires : tie.Need-grant-requires
 grant-requires c κs = search needs
 
--- src/serve.rt:36:23
 enum-known-ruling : tie.Need-enum-known-ruling
 enum-known-ruling c = search needs
 
--- src/serve.rt:37:13
 refuse-requires : tie.Need-refuse-requires
 refuse-requires c κs = search needs
 
--- src/serve.rt:39:25
 enum-known-ruling-2 : tie.Need-enum-known-ruling-2
 enum-known-ruling-2 c = search needs
 
--- src/serve.rt:40:13
 refuse-requires-2 : tie.Need-refuse-requires-2
 refuse-requires-2 c κs = search needs
 
--- src/serve.rt:42:25
 enum-known-ruling-3 : tie.Need-enum-known-ruling-3
 enum-known-ruling-3 c = search needs
 
--- src/serve.rt:43:13
 refuse-requires-3 : tie.Need-refuse-requires-3
 refuse-requires-3 c κs = search needs
 
--- src/serve.rt:19:1
 same-length : tie.Need-same-length
 same-length c = search needs
 
--- src/serve.rt:19:1
 same-length-2 : tie.Need-same-length-2
 same-length-2 c = search needs
 
--- src/serve.rt:19:1
 returns : tie.Need-returns
 returns c =
     let d = rw (c .before .before .before .before .before .before .before .enum-told .given .1) at (c .before .before .before .before .before .before .before .before .before .decide .ensures) in
     rw (← d) (c .before .before .before .before .grant .ensures)
 
--- src/serve.rt:19:1
 same-length-3 : tie.Need-same-length-3
 same-length-3 c = search needs
 
--- src/serve.rt:19:1
 same-length-4 : tie.Need-same-length-4
 same-length-4 c = search needs
 
--- src/serve.rt:19:1
 returns-2 : tie.Need-returns-2
 returns-2 c =
     let d = rw (c .before .before .before .before .before .ruling .given .1) at (c .before .before .before .before .before .before .before .decide .ensures) in
     rw (← d) (logged-frame (requestOf (c .before .before .before .before .before .before .before .before .before .before .before .before .before .before .args .login) (c .before .before .before .before .before .before .before .before .before .before .before .before .before .before .args .folder) (c .before .before .before .before .before .before .before .before .before .before .before .before .before .before .args .kind)) (logOf (c .before .before .before .before .before .before .before .before .before .before .before .before .before .before .args .log .now) (c .before .before .before .before .before .before .before .before .before .before .before .before .before .before .args .end) (c .before .before .before .before .before .before .before .before .before .before .before .before .before .before .args .serial)) (answer 20 (c .before .before .before .before .before .ruling .given .0 .0 .0 ∷ [])) (c .before .before .before .before .before .before .before .before .before .before .before .before .before .before .args .row .now) (replied (c .before .before .refuse .result) [] (c .before .before .refuse .last .0)) (c .before .before .refuse .ensures))
 
--- src/serve.rt:19:1
 same-length-5 : tie.Need-same-length-5
 same-length-5 c = search needs
 
--- src/serve.rt:19:1
 same-length-6 : tie.Need-same-length-6
 same-length-6 c = search needs
 
--- src/serve.rt:19:1
 returns-3 : tie.Need-returns-3
 returns-3 c =
     let d = rw (c .before .before .before .before .before .ruling2 .given .1) at (c .before .before .before .before .before .before .before .decide .ensures) in
     rw (← d) (logged-frame (requestOf (c .before .before .before .before .before .before .before .before .before .before .before .before .before .before .args .login) (c .before .before .before .before .before .before .before .before .before .before .before .before .before .before .args .folder) (c .before .before .before .before .before .before .before .before .before .before .before .before .before .before .args .kind)) (logOf (c .before .before .before .before .before .before .before .before .before .before .before .before .before .before .args .log .now) (c .before .before .before .before .before .before .before .before .before .before .before .before .before .before .args .end) (c .before .before .before .before .before .before .before .before .before .before .before .before .before .before .args .serial)) (answer 21 (c .before .before .before .before .before .ruling2 .given .0 .0 .0 ∷ [])) (c .before .before .before .before .before .before .before .before .before .before .before .before .before .before .args .row .now) (replied (c .before .before .refuse2 .result) [] (c .before .before .refuse2 .last .0)) (c .before .before .refuse2 .ensures))
 
--- src/serve.rt:19:1
 same-length-7 : tie.Need-same-length-7
 same-length-7 c = search needs
 
--- src/serve.rt:19:1
 same-length-8 : tie.Need-same-length-8
 same-length-8 c = search needs
 
--- src/serve.rt:19:1
 returns-4 : tie.Need-returns-4
 returns-4 c =
     let d = rw (c .before .before .before .before .before .ruling3 .given .1) at (c .before .before .before .before .before .before .before .decide .ensures) in

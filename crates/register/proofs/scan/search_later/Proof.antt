@@ -10,9 +10,6 @@ use native.Mathlib.Omega.{arith}
 use borrow.Author.Needs.{needs}
 use Rattle.register.proofs.scan.search_later.Statement.{statement}
 use Rattle.register.proofs.scan.search_later.Tie as tie
-use Rattle.register.proofs.scan.search_later.Reads as reads
-use Rattle.register.proofs.scan.search_later.Lts as lts
-use Rattle.register.proofs.scan.first_earlier.Reads as first-earlier-reads
 
 abbrev Inv-loop : tie.InvT-loop
 Inv-loop classes clients f₀ f = (f ≤ length classes) × (those (λ k. some (earlier (registerOf 0 classes clients) k)) f ≡ [])
@@ -20,37 +17,30 @@ Inv-loop classes clients f₀ f = (f ≤ length classes) × (those (λ k. some (
 abbrev μ-loop : tie.MeasureT-loop
 μ-loop classes clients f₀ f = length classes - f
 
--- src/scan.rt:94:5
 loop-holds : tie.Need-loop-holds Inv-loop μ-loop
 unfolding those
 loop-holds c =
     (omega arith, refl)
 
--- src/scan.rt:95:12
 first-earlier-requires : tie.Need-first-earlier-requires Inv-loop μ-loop
 first-earlier-requires c κs = search needs
 
--- src/scan.rt:96:13
 returns : tie.Need-returns Inv-loop μ-loop
 unfolding later earlier
 returns c =
     sym (first-found _ _ _ _ (c .before .before .before .loop .inv .1) (first-some _ _ _ (rw (c .before .first-earlier .ensures .0) at (c .if1 .taken)) .0) (c .before .before .loop-test .taken))
 
--- src/scan.rt:98:9
 add-f : tie.Need-add-f Inv-loop μ-loop
 add-f c = search needs
 
--- src/scan.rt:94:5
 loop-less : tie.Need-loop-less Inv-loop μ-loop
 loop-less c = search needs
 
--- src/scan.rt:94:5
 loop-again : tie.Need-loop-again Inv-loop μ-loop
 unfolding earlier
 loop-again c =
     (omega arith, those-none _ _ (c .before .before .before .loop .inv .1) (first-none _ _ (rw (c .before .first-earlier .ensures .0) at (c .if1 .left))))
 
--- src/scan.rt:89:1
 returns-2 : tie.Need-returns-2 Inv-loop μ-loop
 unfolding later
 returns-2 c =
