@@ -6,7 +6,7 @@ use std::time::{Duration, Instant};
 pub type Task<'a> = Box<dyn FnMut(usize) + 'a>;
 
 /// How long a turn lasts, about.
-const TURN: Duration = Duration::from_micros(500);
+const TURN: Duration = Duration::from_millis(2);
 
 /// How many turns each contender gets.
 const ROUNDS: usize = 101;
