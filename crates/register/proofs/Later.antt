@@ -1,4 +1,4 @@
--- When a folder differs from an earlier one: where none before it does, the last earlier folder of its client decides.
+-- When a folder differs from an earlier one: where none before it does, any earlier folder of its client decides.
 use Prim.Native.Nat.{ℕ, zero, suc, _+_, _-_, _≤_, _<_}
 use mathlib.Core.Path.{_≡_, refl, ap, sym, _∙_}
 use mathlib.Core.Bool.{Bool, true, false, not, _&&_, false≢true}
@@ -12,6 +12,7 @@ use Rattle.vocabulary.specs.Those.{those, some}
 use Rattle.vocabulary.proofs.Those.{those-empty, those-never, some-none}
 use Rattle.register.specs.Register.{Register, classOf, clientOf, differs, earlier}
 use Rattle.register.specs.Chains.{pastLast, ofClient, clash}
+use Rattle.register.specs.Marks.{Clean}
 use Rattle.register.proofs.Chains.{pastLast-le, pastLast-holds, pastLast-none}
 
 pub differs-none : (r : Register) (f g : ℕ) → (clientOf r g ≡ clientOf r f → classOf r g ≡ classOf r f) → differs r f g ≡ false
@@ -28,25 +29,19 @@ differs-class r f g h e =
       | no d ↦ absurd (false≢true (sym h ∙ rw (eq-eqb (clientOf r g) (clientOf r f) e, ne-eqb (classOf r g) (classOf r f) d)))
     ]
 
-module _ (r : Register) (i : ℕ) (clean : those (λ f. some (earlier r f)) i ≡ []) where
+module _ (r : Register) (i : ℕ) (clean : Clean r i) where
   -- Where nothing before differs from an earlier folder, two folders of one client have one class.
   one-class : (g k : ℕ) → g < i → k < g → clientOf r k ≡ clientOf r g → classOf r k ≡ classOf r g
   unfolding earlier
   one-class g k below before e =
       differs-class r g k (those-empty (differs r g) g (some-none (those (differs r g) g) (those-empty (λ f. some (earlier r f)) i clean g below)) k before) e
 
-  alone : pastLast (ofClient (r .clients) (clientOf r i)) i ≡ 0 → some (earlier r i) ≡ false
+  -- A folder alone of its client differs from none.
+  pub alone : ((g : ℕ) → g < i → clientOf r g ≡ clientOf r i → ⊥) → some (earlier r i) ≡ false
   unfolding earlier
-  alone e = ap some (those-never (differs r i) i (λ k h. differs-none r i k (λ same. absurd (false≢true (sym (pastLast-none (ofClient (r .clients) (clientOf r i)) i k (omega arith) h) ∙ eq-eqb (clientOf r k) (clientOf r i) same)))))
+  alone none = ap some (those-never (differs r i) i (λ k h. differs-none r i k (λ same. absurd (none k h same))))
 
-  module _ (g : ℕ) (last : pastLast (ofClient (r .clients) (clientOf r i)) i ≡ suc g) where
-    below : g < i
-    below = omega (arith, pastLast-le (ofClient (r .clients) (clientOf r i)) i)
-
-    alike : clientOf r g ≡ clientOf r i
-    alike = eqb-true (clientOf r g) (clientOf r i) (pastLast-holds (ofClient (r .clients) (clientOf r i)) i g last)
-
-    -- An earlier folder of i's client is g or stands before it.
+  module _ (g : ℕ) (below : g < i) (alike : clientOf r g ≡ clientOf r i) where
     class-alike : classOf r g ≡ classOf r i → (k : ℕ) → k < i → clientOf r k ≡ clientOf r i → classOf r k ≡ classOf r i
     class-alike same k h e =
         elim (decLt k g) [
@@ -54,7 +49,7 @@ module _ (r : Register) (i : ℕ) (clean : those (λ f. some (earlier r f)) i �
           | no past ↦
               elim (ℕ-discrete k g) [
                 | yes at ↦ rw at same
-                | no d ↦ absurd (false≢true (sym (pastLast-none (ofClient (r .clients) (clientOf r i)) i k (omega arith) h) ∙ eq-eqb (clientOf r k) (clientOf r i) e))
+                | no d ↦ sym (one-class k g h (omega arith) (alike ∙ sym e)) ∙ same
               ]
         ]
 
@@ -70,14 +65,23 @@ module _ (r : Register) (i : ℕ) (clean : those (λ f. some (earlier r f)) i �
         at true e = refl
         at false e = absurd (d (differs-class r i g (those-empty (differs r i) i (some-none (those (differs r i) i) e) g below) alike))
 
+    -- Any earlier folder of its client decides.
+    pub decides : some (earlier r i) ≡ not (eqb (classOf r g) (classOf r i))
+    decides =
+        elim (ℕ-discrete (classOf r g) (classOf r i)) [
+          | yes same ↦ rw (eq-eqb (classOf r g) (classOf r i) same) (agrees same)
+          | no d ↦ rw (ne-eqb (classOf r g) (classOf r i) d) (disagrees d)
+        ]
+
+  -- The last one does, as the table gives it.
   pub later-step : some (earlier r i) ≡ clash (r .classes) i (pastLast (ofClient (r .clients) (clientOf r i)) i)
   later-step = at (pastLast (ofClient (r .clients) (clientOf r i)) i) refl
     where
       at : (m : ℕ) → pastLast (ofClient (r .clients) (clientOf r i)) i ≡ m → some (earlier r i) ≡ clash (r .classes) i m
-      at zero e = alone e
+      at zero e =
+          alone (λ k h same. absurd (false≢true (sym (pastLast-none (ofClient (r .clients) (clientOf r i)) i k (omega arith) h) ∙ eq-eqb (clientOf r k) (clientOf r i) same)))
       at (suc g) e =
           let one-less : suc g - 1 ≡ g = omega arith in
-          elim (ℕ-discrete (classOf r g) (classOf r i)) [
-            | yes same ↦ rw (lt-ltb 0 (suc g) (omega arith), one-less, eq-eqb (classOf r g) (classOf r i) same) (agrees g e same)
-            | no d ↦ rw (lt-ltb 0 (suc g) (omega arith), one-less, ne-eqb (classOf r g) (classOf r i) d) (disagrees g e d)
-          ]
+          let below : g < i = omega (arith, pastLast-le (ofClient (r .clients) (clientOf r i)) i) in
+          let alike = eqb-true (clientOf r g) (clientOf r i) (pastLast-holds (ofClient (r .clients) (clientOf r i)) i g e) in
+          rw (lt-ltb 0 (suc g) (omega arith), one-less) (decides g below alike)

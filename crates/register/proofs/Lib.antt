@@ -1,3 +1,4 @@
 pub mod Answers
 pub mod Chains
+pub mod Marks
 pub mod Later

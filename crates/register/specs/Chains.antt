@@ -1,10 +1,12 @@
 -- Internal: the table by which refusal 3 is sought in one pass. No rule of document 01 stands here.
-use Prim.Native.Nat.{ℕ, zero, suc, _-_, _<_, _%_}
+use Prim.Native.Nat.{ℕ, zero, suc, _+_, _-_, _<_, _/_, _%_}
 use mathlib.Core.Path.{_≡_}
 use mathlib.Core.Bool.{Bool, cond, not, _&&_}
 use mathlib.Core.List.{List}
 use lib.ListN.{length, getD}
 use lib.Dec.{eqb, ltb}
+use Rattle.register.specs.declared.table.Sought.{Sought}
+use Rattle.register.specs.declared.table.Sought.the-variants.{Past, GaveUp}
 
 -- One more than the last number below n that passes the test, or 0.
 unfoldable pub pastLast : (ℕ → Bool) → ℕ → ℕ
@@ -17,7 +19,7 @@ ofClient clients c g = eqb (getD clients g 0) c
 
 -- A client's slot in the table.
 abbrev pub slotOf : ℕ → ℕ
-slotOf c = c % 2048
+slotOf c = (c + c / 32) % 2048
 
 -- Folder g's client has the slot s.
 abbrev pub inSlot : List ℕ → ℕ → ℕ → Bool
@@ -29,6 +31,11 @@ pub record Chained (clients heads nexts : List ℕ) (n : ℕ) : Type 0 where
   pub places : length nexts ≡ 512
   pub at-head : (s : ℕ) → s < 2048 → getD heads s 0 ≡ pastLast (inSlot clients s) n
   pub at-next : (g : ℕ) → g < n → getD nexts g 0 ≡ pastLast (inSlot clients (slotOf (getD clients g 0))) g
+
+-- What was sought is this, unless the walk was given up.
+abbrev pub Right : Sought → ℕ → Type 0
+Right (Past past left) n = past ≡ n
+Right GaveUp n = Unit {0}
 
 -- Folder f has another class than the folder before `past`, if there is one.
 abbrev pub clash : List ℕ → ℕ → ℕ → Bool

@@ -1,4 +1,5 @@
 // The register check (document 01, 'The register').
+mod few;
 mod scan;
 mod table;
 

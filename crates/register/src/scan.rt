@@ -10,7 +10,8 @@ ghost use lib.Dec.{eqb};
 ghost use lib.ListN.{length, getD};
 ghost use Rattle.vocabulary.specs.Those.{those, some};
 ghost use Rattle.register.specs.Label.{labelOf};
-ghost use Rattle.register.specs.Register.{registerOf, exactlyOne, loneZero, differs, later};
+ghost use Rattle.register.specs.Register.{registerOf, exactlyOne, loneZero, differs, earlier, later};
+ghost use Rattle.register.specs.Marks.{Clean};
 
 // Whether exactly one of class and client is 0.
 fn lone_zero(l: Label) -> bool
@@ -85,14 +86,30 @@ pub(crate) fn first_earlier(classes: &[u16], clients: &[u16], f: usize) -> usize
     g
 }
 
-// The first folder that differs in class alone from an earlier one, or F, by plain search. No folder that the loop has passed does.
-pub(crate) fn search_later(classes: &[u16], clients: &[u16]) -> usize
-    requires { ⌜ length (now classes) ≡ length (now clients) ⌝ }
+// Whether `f` differs in class alone from a folder before it. Without a way out of the loop, so that it runs on many folders at once.
+pub(crate) fn any_earlier(classes: &[u16], clients: &[u16], f: usize) -> bool
+    requires { ⌜ (f < length (now classes)) × (length (now classes) ≡ length (now clients)) ⌝ }
+    ensures { λ r. ⌜ r ≡ some (earlier (registerOf 0 (now (classes .entry)) (now (clients .entry))) f) ⌝ }
+{
+    let l = label_at(classes, clients, f);
+    let mut any = false;
+    let mut g = 0;
+    while g < f {
+        any = any | differ(l, label_at(classes, clients, g));
+        g += 1;
+    }
+    any
+}
+
+// The first folder that differs in class alone from an earlier one, or F, by plain search from a folder on. No folder that the loop has
+// passed does.
+pub(crate) fn search_from(classes: &[u16], clients: &[u16], start: usize) -> usize
+    requires { ⌜ (length (now classes) ≡ length (now clients)) × (start ≤ length (now classes)) × Clean (registerOf 0 (now classes) (now clients)) start ⌝ }
     ensures { λ r. ⌜ r ≡ getD (later (registerOf 0 (now (classes .entry)) (now (clients .entry)))) 0 (length (now (classes .entry))) ⌝ }
 {
-    let mut f = 0;
+    let mut f = start;
     while f < classes.len() {
-        if first_earlier(classes, clients, f) < f {
+        if any_earlier(classes, clients, f) {
             return f;
         }
         f += 1;
