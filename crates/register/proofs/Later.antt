@@ -11,9 +11,9 @@ use borrow.Author.Tests.{eq-eqb, ne-eqb, eqb-true, lt-ltb, le-ltb}
 use Rattle.vocabulary.specs.Those.{those, some}
 use Rattle.vocabulary.proofs.Those.{those-empty, those-never, some-none}
 use Rattle.register.specs.Register.{Register, classOf, clientOf, differs, earlier}
-use Rattle.register.specs.Chains.{pastLast, ofClient, clash}
-use Rattle.register.specs.Marks.{Clean}
-use Rattle.register.proofs.Chains.{pastLast-le, pastLast-holds, pastLast-none}
+use Rattle.register.specs.Chains.{pastLast, ofClient}
+use Rattle.register.specs.Marks.{Clean, Telling, clash}
+use Rattle.register.proofs.Chains.{pastLast-holds, pastLast-none}
 
 pub differs-none : (r : Register) (f g : ℕ) → (clientOf r g ≡ clientOf r f → classOf r g ≡ classOf r f) → differs r f g ≡ false
 differs-none r f g h =
@@ -73,15 +73,20 @@ module _ (r : Register) (i : ℕ) (clean : Clean r i) where
           | no d ↦ rw (ne-eqb (classOf r g) (classOf r i) d) (disagrees d)
         ]
 
-  -- The last one does, as the table gives it.
-  pub later-step : some (earlier r i) ≡ clash (r .classes) i (pastLast (ofClient (r .clients) (clientOf r i)) i)
-  later-step = at (pastLast (ofClient (r .clients) (clientOf r i)) i) refl
-    where
-      at : (m : ℕ) → pastLast (ofClient (r .clients) (clientOf r i)) i ≡ m → some (earlier r i) ≡ clash (r .classes) i m
-      at zero e =
-          alone (λ k h same. absurd (false≢true (sym (pastLast-none (ofClient (r .clients) (clientOf r i)) i k (omega arith) h) ∙ eq-eqb (clientOf r k) (clientOf r i) same)))
-      at (suc g) e =
-          let one-less : suc g - 1 ≡ g = omega arith in
-          let below : g < i = omega (arith, pastLast-le (ofClient (r .clients) (clientOf r i)) i) in
-          let alike = eqb-true (clientOf r g) (clientOf r i) (pastLast-holds (ofClient (r .clients) (clientOf r i)) i g e) in
-          rw (lt-ltb 0 (suc g) (omega arith), one-less) (decides g below alike)
+  -- So does one that a mark tells of.
+  pub told-step : (mark : ℕ) → Telling (r .clients) i mark → mark ≤ i → some (earlier r i) ≡ clash (r .classes) i mark
+  told-step zero t h = alone (t .none refl)
+  told-step (suc g) t h =
+      let one-less : suc g - 1 ≡ g = omega arith in
+      rw (lt-ltb 0 (suc g) (omega arith), one-less) (decides g (omega arith) (rw one-less at (t .one (omega arith) h)))
+
+-- The last folder of a client tells of it.
+pub last-telling : (clients : List ℕ) (i : ℕ) → Telling clients i (pastLast (ofClient clients (getD clients i 0)) i)
+last-telling clients i =
+    record {
+      none = λ z g h same. false≢true (sym (pastLast-none p i g (omega (arith, z)) h) ∙ eq-eqb (getD clients g 0) (getD clients i 0) same);
+      one = λ some h. eqb-true (getD clients (pastLast p i - 1) 0) (getD clients i 0) (pastLast-holds p i (pastLast p i - 1) (omega arith));
+    }
+  where
+    p : ℕ → Bool
+    p = ofClient clients (getD clients i 0)

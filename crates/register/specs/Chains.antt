@@ -36,7 +36,3 @@ pub record Chained (clients heads nexts : List ℕ) (n : ℕ) : Type 0 where
 abbrev pub Right : Sought → ℕ → Type 0
 Right (Past past left) n = past ≡ n
 Right GaveUp n = Unit {0}
-
--- Folder f has another class than the folder before `past`, if there is one.
-abbrev pub clash : List ℕ → ℕ → ℕ → Bool
-clash classes f past = ltb 0 past && not (eqb (getD classes (past - 1) 0) (getD classes f 0))

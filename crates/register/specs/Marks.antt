@@ -1,16 +1,26 @@
--- Internal: how refusal 3 is sought among few folders, by marks. No rule of document 01 stands here.
+-- Internal: how refusal 3 is sought in one pass, and by marks among few folders. A mark is one more than a folder's number, or 0. No rule of
+-- document 01 stands here.
 use Prim.Native.Nat.{ℕ, _+_, _-_, _≤_, _<_, _%_}
 use mathlib.Core.Path.{_≡_}
-use mathlib.Core.Bool.{cond, _||_}
+use mathlib.Core.Bool.{Bool, cond, not, _&&_, _||_}
 use mathlib.Core.List.{List, []}
 use lib.ListN.{length, getD}
-use lib.Dec.{eqb}
+use lib.Dec.{eqb, ltb}
 use Rattle.vocabulary.specs.Those.{those, some}
 use Rattle.register.specs.Register.{Register, earlier}
 
 -- No folder below n differs in class alone from an earlier one.
 abbrev pub Clean : Register → ℕ → Type 0
 Clean r n = those (λ f. some (earlier r f)) n ≡ []
+
+-- Folder f has another class than the folder before `past`, if there is one.
+abbrev pub clash : List ℕ → ℕ → ℕ → Bool
+clash classes f past = ltb 0 past && not (eqb (getD classes (past - 1) 0) (getD classes f 0))
+
+-- A mark that is to be believed: 0 if no earlier folder is of f's client, and one more than the number of such a folder if it is at most f.
+pub record Telling (clients : List ℕ) (f mark : ℕ) : Type 0 where
+  pub none : mark ≡ 0 → (g : ℕ) → g < f → getD clients g 0 ≡ getD clients f 0 → ⊥
+  pub one : 0 < mark → mark ≤ f → getD clients (mark - 1) 0 ≡ getD clients f 0
 
 -- A client's place among the marks.
 abbrev pub markOf : ℕ → ℕ
@@ -25,8 +35,3 @@ pub record Marked (clients marks : List ℕ) (n : ℕ) : Type 0 where
 -- What a mark tells of folder f: itself, if it is 0 or left by a folder of f's client; else f + 1, which tells nothing.
 abbrev pub told : List ℕ → ℕ → ℕ → ℕ
 told clients mark f = cond (eqb mark 0 || eqb (getD clients (mark - 1) 0) (getD clients f 0)) mark (f + 1)
-
--- A mark that is to be believed: 0 if no earlier folder is of f's client, and one more than the number of such a folder if it is at most f.
-pub record Telling (clients : List ℕ) (f mark : ℕ) : Type 0 where
-  pub none : mark ≡ 0 → (g : ℕ) → g < f → getD clients g 0 ≡ getD clients f 0 → ⊥
-  pub one : 0 < mark → mark ≤ f → getD clients (mark - 1) 0 ≡ getD clients f 0

@@ -1,9 +1,8 @@
 // Refusal 3 among few folders, in one pass: each folder leaves a mark by its client, one more than its number. Clients that share a place
 // are told apart by the folders themselves, and where a mark tells nothing of a client, its folder is sought plainly.
 use crate::scan::any_earlier;
-use ids::ClassNo;
+use crate::scan::clashes;
 use ids::ClientNo;
-use ids::same_class;
 use ids::same_client;
 ghost use Prim.Native.Nat.{_<_, _≤_};
 ghost use mathlib.Core.Path.{_≡_};
@@ -31,13 +30,10 @@ fn clashes_by(classes: &[u16], clients: &[u16], mark: usize, f: usize) -> bool
     requires { ⌜ (f < length (now classes)) × (length (now classes) ≡ length (now clients)) × Clean (registerOf 0 (now classes) (now clients)) f × Telling (now clients) f mark ⌝ }
     ensures { λ r. ⌜ r ≡ some (earlier (registerOf 0 (now (classes .entry)) (now (clients .entry))) f) ⌝ }
 {
-    if mark == 0 {
-        return false;
+    if f < mark {
+        return any_earlier(classes, clients, f);
     }
-    if mark <= f {
-        return !same_class(ClassNo(classes[mark - 1]), ClassNo(classes[f]));
-    }
-    any_earlier(classes, clients, f)
+    clashes(classes, mark, f)
 }
 
 // The first folder that differs in class alone from an earlier one, or F.

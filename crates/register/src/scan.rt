@@ -1,6 +1,7 @@
 // Searches through the folders' labels.
 use crate::Label;
 use crate::labelled;
+use ids::ClassNo;
 use ids::same_class;
 use ids::same_client;
 ghost use Prim.Native.Nat.{_<_, _≤_};
@@ -11,7 +12,7 @@ ghost use lib.ListN.{length, getD};
 ghost use Rattle.vocabulary.specs.Those.{those, some};
 ghost use Rattle.register.specs.Label.{labelOf};
 ghost use Rattle.register.specs.Register.{registerOf, exactlyOne, loneZero, differs, earlier, later};
-ghost use Rattle.register.specs.Marks.{Clean};
+ghost use Rattle.register.specs.Marks.{Clean, clash};
 
 // Whether exactly one of class and client is 0.
 fn lone_zero(l: Label) -> bool
@@ -99,6 +100,17 @@ pub(crate) fn any_earlier(classes: &[u16], clients: &[u16], f: usize) -> bool
         g += 1;
     }
     any
+}
+
+// Whether `f` has another class than the folder before `past`, if there is one.
+pub(crate) fn clashes(classes: &[u16], past: usize, f: usize) -> bool
+    requires { ⌜ (f < length (now classes)) × (past ≤ f) ⌝ }
+    ensures { λ r. ⌜ r ≡ clash (now (classes .entry)) f past ⌝ }
+{
+    if past == 0 {
+        return false;
+    }
+    !same_class(ClassNo(classes[past - 1]), ClassNo(classes[f]))
 }
 
 // The first folder that differs in class alone from an earlier one, or F, by plain search from a folder on. No folder that the loop has

@@ -1,15 +1,14 @@
 // Refusal 3 in one pass: a table of the folders met so far, by their clients. Each slot heads a chain of its folders, the
 // last first; the numbers kept are one more than the folder's, and 0 is the end.
 use crate::few::walk_few;
+use crate::scan::clashes;
 use crate::scan::search_from;
-use ids::ClassNo;
 use ids::ClientNo;
-use ids::same_class;
 use ids::same_client;
 ghost use Prim.Native.Nat.{_<_, _≤_, _+_};
 ghost use mathlib.Core.Path.{_≡_};
 ghost use lib.ListN.{length, getD};
-ghost use Rattle.register.specs.Chains.{pastLast, ofClient, slotOf, Chained, Right, clash};
+ghost use Rattle.register.specs.Chains.{pastLast, ofClient, slotOf, Chained, Right};
 ghost use Rattle.register.specs.Register.{registerOf, later};
 
 // A client's slot. Clients that follow on each other have different ones, also in steps of a power of two.
@@ -59,17 +58,6 @@ fn last_of_client(
         past = wide(nexts[g]);
     }
     Sought::Past(0, left)
-}
-
-// Whether `f` has another class than the folder before `past`, if there is one.
-fn clashes(classes: &[u16], past: usize, f: usize) -> bool
-    requires { ⌜ (f < length (now classes)) × (past ≤ f) ⌝ }
-    ensures { λ r. ⌜ r ≡ clash (now (classes .entry)) f past ⌝ }
-{
-    if past == 0 {
-        return false;
-    }
-    !same_class(ClassNo(classes[past - 1]), ClassNo(classes[f]))
 }
 
 // Enters folder `f` into the table.

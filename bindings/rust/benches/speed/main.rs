@@ -215,9 +215,11 @@ fn checks() {
     println!("## Register check\n");
     println!("| Register | library | table | array of 65,536 | hash map | quadratic | library / table | library / quadratic |");
     println!("|---|---|---|---|---|---|---|---|");
+    // Chosen against the library: clients of one slot of its table, of which there are 32, and clients of one place among its marks.
+    let crowded: Vec<usize> = (1..65_536).filter(|client| (client + client / 32) % 2048 == 7).collect();
+    let marked = |folder: usize| (folder + 1) * 128;
     for (name, input) in [
         ("512 folders, all clients distinct", Input::new(128, 512, |folder| folder + 1)),
-        ("… in steps of 127", Input::new(128, 512, |folder| (folder + 1) * 127)),
         ("… in steps of 128", Input::new(128, 512, |folder| folder * 128)),
         ("… in random order", {
             let mut random = Random(3);
@@ -225,9 +227,15 @@ fn checks() {
             Input::new(128, 512, move |folder| numbers[folder])
         }),
         ("512 folders, 64 clients", Input::new(128, 512, |folder| folder % 64 + 1)),
-        ("512 folders, 64 clients in steps of 1,024", Input::new(128, 512, |folder| folder % 64 * 1024)),
         ("512 folders, 1 client", Input::new(128, 512, |_| 1)),
+        ("512 folders, chosen against the table", Input::new(128, 512, |folder| crowded[folder % crowded.len()])),
+        ("128 folders, chosen against the table", Input::new(128, 128, |folder| crowded[folder % crowded.len()])),
+        ("65 folders, chosen against the table", Input::new(128, 65, |folder| crowded[folder % crowded.len()])),
+        ("64 folders, all clients distinct", Input::new(128, 64, |folder| folder + 1)),
+        ("64 folders, chosen against the marks", Input::new(128, 64, marked)),
+        ("16 folders, chosen against the marks", Input::new(4, 16, marked)),
         ("8 folders, 5 clients", Input::new(4, 8, |folder| folder % 5)),
+        ("8 folders, chosen against the marks", Input::new(4, 8, marked)),
         ("1 folder", Input::new(1, 1, |_| 1)),
     ] {
         let house = input.house();

@@ -1,6 +1,6 @@
 -- `walk_later` meets its contract: no folder that the loop has passed differs from an earlier one, and the table holds them all.
 use Rattle.register.proofs.Chains.{chained-none, pastLast-le}
-use Rattle.register.proofs.Later.{later-step}
+use Rattle.register.proofs.Later.{told-step, last-telling}
 use Rattle.register.specs.Register.{registerOf, later}
 use Rattle.register.specs.Marks.{Clean}
 use Rattle.register.specs.Chains.{Chained}
@@ -51,7 +51,7 @@ returns-2 : tie.Need-returns-2 Inv-loop μ-loop
 unfolding later
 returns-2 c =
     let p = rw (c .before .before .before .past .given .1) at (c .before .before .before .before .before .last-of-client .ensures) in
-    sym (first-found _ _ _ _ (c .before .before .before .before .before .before .before .before .before .loop .inv .1 .0) (later-step _ _ (c .before .before .before .before .before .before .before .before .before .loop .inv .1 .0) ∙ rw p at (sym (c .before .clashes .ensures) ∙ c .if1 .taken)) (c .before .before .before .before .before .before .before .before .loop-test .taken))
+    sym (first-found _ _ _ _ (c .before .before .before .before .before .before .before .before .before .loop .inv .1 .0) (told-step _ _ (c .before .before .before .before .before .before .before .before .before .loop .inv .1 .0) _ (last-telling _ _) (pastLast-le _ _) ∙ rw p at (sym (c .before .clashes .ensures) ∙ c .if1 .taken)) (c .before .before .before .before .before .before .before .before .loop-test .taken))
 
 enter-requires : tie.Need-enter-requires Inv-loop μ-loop
 enter-requires c κs =
@@ -66,7 +66,7 @@ loop-less c = search needs
 loop-again : tie.Need-loop-again Inv-loop μ-loop
 loop-again c =
     let p = rw (c .before .before .before .before .before .before .past .given .1) at (c .before .before .before .before .before .before .before .before .last-of-client .ensures) in
-    (omega arith, (those-none _ _ (c .before .before .before .before .before .before .before .before .before .before .before .before .loop .inv .1 .0) (later-step _ _ (c .before .before .before .before .before .before .before .before .before .before .before .before .loop .inv .1 .0) ∙ rw p at (sym (c .before .before .before .before .clashes .ensures) ∙ c .before .before .before .if1 .left)), c .enter .ensures))
+    (omega arith, (those-none _ _ (c .before .before .before .before .before .before .before .before .before .before .before .before .loop .inv .1 .0) (told-step _ _ (c .before .before .before .before .before .before .before .before .before .before .before .before .loop .inv .1 .0) _ (last-telling _ _) (pastLast-le _ _) ∙ rw p at (sym (c .before .before .before .before .clashes .ensures) ∙ c .before .before .before .if1 .left)), c .enter .ensures))
 
 returns-3 : tie.Need-returns-3 Inv-loop μ-loop
 unfolding later

@@ -3,8 +3,8 @@ use Prim.Native.Nat.{_-_}
 use native.Mathlib.Omega.{arith}
 use borrow.Author.Tests.{lt-ltb, le-ltb}
 use borrow.Author.Needs.{needs}
-use Rattle.register.proofs.table.clashes.Statement.{statement}
-use Rattle.register.proofs.table.clashes.Tie as tie
+use Rattle.register.proofs.scan.clashes.Statement.{statement}
+use Rattle.register.proofs.scan.clashes.Tie as tie
 
 returns : tie.Need-returns
 returns c =
