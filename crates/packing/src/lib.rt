@@ -58,7 +58,7 @@ fn first_above(cells: &[u8]) -> usize
     0
 }
 
-// Four cells in a byte, the first in the lowest two bits. The four make a word, which is read at once where they lie in a row; one
+// Four cells in a byte, the first in the lowest two bits. The four make a word, which a compiler can read at once where they lie in a row; one
 // multiplication, by 2^24 + 2^18 + 2^12 + 2^6, brings their bits together from bit 24 on.
 fn byte_of(a: u8, b: u8, c: u8, d: u8) -> u8
     requires { ⌜ (a ≤ 3) × (b ≤ 3) × (c ≤ 3) × (d ≤ 3) ⌝ }

@@ -1,18 +1,18 @@
 -- Laws of the marks by which refusal 3 is sought among few folders.
-use Prim.Native.Nat.{ℕ, zero, suc, _+_, _-_, _≤_, _<_}
-use mathlib.Core.Path.{_≡_, refl, sym, _∙_}
+use Prim.Native.Nat.{ℕ, _+_, _-_, _<_}
+use mathlib.Core.Path.{_≡_, refl, _∙_}
 use mathlib.Core.Bool.{Bool, true, false, cond, _||_}
 use mathlib.Core.List.{List}
-use mathlib.Core.Logic.{_⊎_, inl, inr, ⊎-elim}
+use mathlib.Core.Logic.{_⊎_, ⊎-elim}
 use native.Mathlib.Nat.{not-suc-le-zero}
 use native.Mathlib.Omega.{arith}
 use native.Mathlib.Decide.{ℕ-discrete}
 use lib.Dec.{eqb}
-use lib.ListN.{length, getD, set, replicate, length-replicate, getD-replicate, length-set}
+use lib.ListN.{getD, set, replicate, length-replicate, getD-replicate, length-set}
 use lib.Seq.{getD-set-same, getD-set-other}
 use borrow.Author.Tests.{eqb-true}
 use Rattle.vocabulary.proofs.Bools.{either}
-use Rattle.register.specs.Marks.{Marked, Telling, markOf, told}
+use Rattle.register.specs.Marks.{Marked, Telling, markOf, tells}
 
 -- No folder has left a mark yet.
 pub marked-none : (clients : List ℕ) → Marked clients (replicate 128 0) 0
@@ -49,7 +49,7 @@ marked-more clients marks n t =
         ]
 
 -- What a folder's mark tells is to be believed.
-pub marked-telling : (clients marks : List ℕ) (f : ℕ) → Marked clients marks f → Telling clients f (told clients (getD marks (markOf (getD clients f 0)) 0) f)
+pub marked-telling : (clients marks : List ℕ) (f : ℕ) → Marked clients marks f → Telling clients f (tells clients (getD marks (markOf (getD clients f 0)) 0) f)
 marked-telling clients marks f t = at (eqb mark 0 || eqb (getD clients (mark - 1) 0) (getD clients f 0)) refl
   where
     mark : ℕ

@@ -1,10 +1,10 @@
 -- Internal: the table by which refusal 3 is sought in one pass. No rule of document 01 stands here.
 use Prim.Native.Nat.{ℕ, zero, suc, _+_, _-_, _<_, _/_, _%_}
 use mathlib.Core.Path.{_≡_}
-use mathlib.Core.Bool.{Bool, cond, not, _&&_}
+use mathlib.Core.Bool.{Bool, cond}
 use mathlib.Core.List.{List}
 use lib.ListN.{length, getD}
-use lib.Dec.{eqb, ltb}
+use lib.Dec.{eqb}
 use Rattle.register.specs.declared.table.Sought.{Sought}
 use Rattle.register.specs.declared.table.Sought.the-variants.{Past, GaveUp}
 
@@ -32,7 +32,7 @@ pub record Chained (clients heads nexts : List ℕ) (n : ℕ) : Type 0 where
   pub at-head : (s : ℕ) → s < 2048 → getD heads s 0 ≡ pastLast (inSlot clients s) n
   pub at-next : (g : ℕ) → g < n → getD nexts g 0 ≡ pastLast (inSlot clients (slotOf (getD clients g 0))) g
 
--- What was sought is this, unless the walk was given up.
-abbrev pub Right : Sought → ℕ → Type 0
-Right (Past past left) n = past ≡ n
-Right GaveUp n = Unit {0}
+-- What was found is this; of a walk that was given up nothing is said.
+abbrev pub FoundIs : Sought → ℕ → Type 0
+FoundIs (Past past left) n = past ≡ n
+FoundIs GaveUp n = Unit {0}

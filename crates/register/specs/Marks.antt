@@ -1,5 +1,5 @@
--- Internal: how refusal 3 is sought in one pass, and by marks among few folders. A mark is one more than a folder's number, or 0. No rule of
--- document 01 stands here.
+-- Internal: how refusal 3 is sought in one pass, and how by marks where there are few folders. A mark is one more than a folder's number, or 0.
+-- No rule of document 01 stands here.
 use Prim.Native.Nat.{ℕ, _+_, _-_, _≤_, _<_, _%_}
 use mathlib.Core.Path.{_≡_}
 use mathlib.Core.Bool.{Bool, cond, not, _&&_, _||_}
@@ -17,7 +17,8 @@ Clean r n = those (λ f. some (earlier r f)) n ≡ []
 abbrev pub clash : List ℕ → ℕ → ℕ → Bool
 clash classes f past = ltb 0 past && not (eqb (getD classes (past - 1) 0) (getD classes f 0))
 
--- A mark that is to be believed: 0 if no earlier folder is of f's client, and one more than the number of such a folder if it is at most f.
+-- A mark to be believed of folder f: if it is 0, no earlier folder is of f's client; if it is 1 to f, the folder before it is one. A larger one
+-- tells nothing.
 pub record Telling (clients : List ℕ) (f mark : ℕ) : Type 0 where
   pub none : mark ≡ 0 → (g : ℕ) → g < f → getD clients g 0 ≡ getD clients f 0 → ⊥
   pub one : 0 < mark → mark ≤ f → getD clients (mark - 1) 0 ≡ getD clients f 0
@@ -26,12 +27,12 @@ pub record Telling (clients : List ℕ) (f mark : ℕ) : Type 0 where
 abbrev pub markOf : ℕ → ℕ
 markOf c = c % 128
 
--- The marks that the folders below n have left, each in its client's place: one more than the folder's number.
+-- The marks after the folders below n: there is one in the place of every such folder's client, and each is that of some folder below n.
 pub record Marked (clients marks : List ℕ) (n : ℕ) : Type 0 where
   pub places : length marks ≡ 128
   pub left : (g : ℕ) → g < n → 0 < getD marks (markOf (getD clients g 0)) 0
   pub within : (s : ℕ) → s < 128 → getD marks s 0 ≤ n
 
 -- What a mark tells of folder f: itself, if it is 0 or left by a folder of f's client; else f + 1, which tells nothing.
-abbrev pub told : List ℕ → ℕ → ℕ → ℕ
-told clients mark f = cond (eqb mark 0 || eqb (getD clients (mark - 1) 0) (getD clients f 0)) mark (f + 1)
+abbrev pub tells : List ℕ → ℕ → ℕ → ℕ
+tells clients mark f = cond (eqb mark 0 || eqb (getD clients (mark - 1) 0) (getD clients f 0)) mark (f + 1)

@@ -8,13 +8,13 @@ ghost use Prim.Native.Nat.{_<_, _≤_};
 ghost use mathlib.Core.Path.{_≡_};
 ghost use lib.ListN.{length, getD};
 ghost use Rattle.vocabulary.specs.Those.{some};
-ghost use Rattle.register.specs.Marks.{Clean, Telling, told};
+ghost use Rattle.register.specs.Marks.{Clean, Telling, tells};
 ghost use Rattle.register.specs.Register.{registerOf, earlier, later};
 
-// What a mark tells of folder `f`.
+// What a mark tells of folder `f`: itself, or `f + 1` if another client's folder left it, which tells nothing.
 fn told_by(clients: &[u16], mark: usize, f: usize) -> usize
     requires { ⌜ (f < length (now clients)) × (mark ≤ f) ⌝ }
-    ensures { λ r. ⌜ r ≡ told (now (clients .entry)) mark f ⌝ }
+    ensures { λ r. ⌜ r ≡ tells (now (clients .entry)) mark f ⌝ }
 {
     if mark == 0 {
         return 0;
@@ -25,7 +25,8 @@ fn told_by(clients: &[u16], mark: usize, f: usize) -> usize
     f + 1
 }
 
-// Whether `f` differs in class alone from an earlier folder, none of which does: by one folder of its client, which stands for all.
+// Whether `f` differs in class alone from an earlier folder, where no earlier one does. One folder of its client stands for all; where the
+// mark tells of none, they are searched.
 fn clashes_by(classes: &[u16], clients: &[u16], mark: usize, f: usize) -> bool
     requires { ⌜ (f < length (now classes)) × (length (now classes) ≡ length (now clients)) × Clean (registerOf 0 (now classes) (now clients)) f × Telling (now clients) f mark ⌝ }
     ensures { λ r. ⌜ r ≡ some (earlier (registerOf 0 (now (classes .entry)) (now (clients .entry))) f) ⌝ }
@@ -36,7 +37,7 @@ fn clashes_by(classes: &[u16], clients: &[u16], mark: usize, f: usize) -> bool
     clashes(classes, mark, f)
 }
 
-// The first folder that differs in class alone from an earlier one, or F.
+// The first folder that differs in class alone from an earlier one, or F. No folder that the loop has passed does, and each has left its mark.
 pub(crate) fn walk_few(classes: &[u16], clients: &[u16]) -> usize
     requires { ⌜ (length (now classes) ≤ 64) × (length (now classes) ≡ length (now clients)) ⌝ }
     ensures { λ r. ⌜ r ≡ getD (later (registerOf 0 (now (classes .entry)) (now (clients .entry)))) 0 (length (now (classes .entry))) ⌝ }

@@ -1,19 +1,21 @@
 // The register check (document 01, 'The register').
-mod few;
-mod scan;
-mod table;
+mod few; // refusal 3 among few folders, by marks
+mod scan; // searches through the labels
+mod table; // refusal 3 among many, by a table
 
+use crate::few::walk_few;
 use crate::scan::any_lone_zero;
 use crate::scan::first_earlier;
 use crate::scan::first_lone_zero;
-use crate::table::first_later;
+use crate::table::walk_later;
 use ids::ClassNo;
 use ids::ClientNo;
 use ids::FolderNo;
 ghost use Prim.Native.Nat.{_≤_};
 ghost use mathlib.Core.Path.{_≡_};
+ghost use lib.ListN.{length, getD};
 ghost use Rattle.register.specs.Label.{labelOf};
-ghost use Rattle.register.specs.Register.{registerOf, inRange, registerAnswer};
+ghost use Rattle.register.specs.Register.{registerOf, inRange, later, registerAnswer};
 ghost use Rattle.register.specs.Verdict.{verdictAnswer};
 
 // The register check's answer.
@@ -61,6 +63,17 @@ fn in_range(logins: usize, classes: &[u16], clients: &[u16]) -> bool
         & (1 <= classes.len())
         & (classes.len() <= 512)
         & (classes.len() == clients.len())
+}
+
+// The first folder that differs in class alone from an earlier one, or F. With few folders, marks are quicker than emptying the table.
+fn first_later(classes: &[u16], clients: &[u16]) -> usize
+    requires { ⌜ (length (now classes) ≤ 512) × (length (now classes) ≡ length (now clients)) ⌝ }
+    ensures { λ r. ⌜ r ≡ getD (later (registerOf 0 (now (classes .entry)) (now (clients .entry)))) 0 (length (now (classes .entry))) ⌝ }
+{
+    if classes.len() <= 64 {
+        return walk_few(classes, clients);
+    }
+    walk_later(classes, clients)
 }
 
 // The register check: the table's rows 1 to 3.

@@ -1,6 +1,5 @@
 // Refusal 3 in one pass: a table of the folders met so far, by their clients. Each slot heads a chain of its folders, the
 // last first; the numbers kept are one more than the folder's, and 0 is the end.
-use crate::few::walk_few;
 use crate::scan::clashes;
 use crate::scan::search_from;
 use ids::ClientNo;
@@ -8,7 +7,7 @@ use ids::same_client;
 ghost use Prim.Native.Nat.{_<_, _≤_, _+_};
 ghost use mathlib.Core.Path.{_≡_};
 ghost use lib.ListN.{length, getD};
-ghost use Rattle.register.specs.Chains.{pastLast, ofClient, slotOf, Chained, Right};
+ghost use Rattle.register.specs.Chains.{pastLast, ofClient, slotOf, Chained, FoundIs};
 ghost use Rattle.register.specs.Register.{registerOf, later};
 
 // A client's slot. Clients that follow on each other have different ones, also in steps of a power of two.
@@ -40,7 +39,7 @@ fn last_of_client(
     steps: usize,
 ) -> Sought
     requires { ⌜ (f < length (now clients)) × ((length (now clients) ≤ 512) × Chained (now clients) (now heads) (now nexts) f) ⌝ }
-    ensures { λ r. ⌜ Right r (pastLast (ofClient (now (clients .entry)) (getD (now (clients .entry)) f 0)) f) ⌝ }
+    ensures { λ r. ⌜ FoundIs r (pastLast (ofClient (now (clients .entry)) (getD (now (clients .entry)) f 0)) f) ⌝ }
 {
     let client = ClientNo(clients[f]);
     let s = slot(client);
@@ -73,7 +72,7 @@ fn enter(clients: &[u16], heads: &mut [u16; 2048], nexts: &mut [u16; 512], f: us
 // The first folder that differs in class alone from an earlier one, or F. While no folder does, all folders of a client have one class,
 // so that the last of them stands for all. Where clients crowd in a slot, the rest is sought plainly: one step for each folder is enough
 // for clients that were not chosen to.
-fn walk_later(classes: &[u16], clients: &[u16]) -> usize
+pub(crate) fn walk_later(classes: &[u16], clients: &[u16]) -> usize
     requires { ⌜ (length (now classes) ≤ 512) × (length (now classes) ≡ length (now clients)) ⌝ }
     ensures { λ r. ⌜ r ≡ getD (later (registerOf 0 (now (classes .entry)) (now (clients .entry)))) 0 (length (now (classes .entry))) ⌝ }
 {
@@ -95,15 +94,4 @@ fn walk_later(classes: &[u16], clients: &[u16]) -> usize
         f += 1;
     }
     f
-}
-
-// The same; with few folders marks are quicker than an empty table.
-pub(crate) fn first_later(classes: &[u16], clients: &[u16]) -> usize
-    requires { ⌜ (length (now classes) ≤ 512) × (length (now classes) ≡ length (now clients)) ⌝ }
-    ensures { λ r. ⌜ r ≡ getD (later (registerOf 0 (now (classes .entry)) (now (clients .entry)))) 0 (length (now (classes .entry))) ⌝ }
-{
-    if classes.len() <= 64 {
-        return walk_few(classes, clients);
-    }
-    walk_later(classes, clients)
 }

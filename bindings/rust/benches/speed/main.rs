@@ -236,6 +236,7 @@ fn checks() {
         ("16 folders, chosen against the marks", Input::new(4, 16, marked)),
         ("8 folders, 5 clients", Input::new(4, 8, |folder| folder % 5)),
         ("8 folders, chosen against the marks", Input::new(4, 8, marked)),
+        ("4 folders, chosen against the marks", Input::new(4, 4, marked)),
         ("1 folder", Input::new(1, 1, |_| 1)),
     ] {
         let house = input.house();

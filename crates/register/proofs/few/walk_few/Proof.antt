@@ -1,8 +1,7 @@
 -- `walk_few` meets its contract: no folder that the loop has passed differs from an earlier one, and each has left its mark.
-use Rattle.register.specs.Marks.{markOf}
+use Rattle.register.specs.Marks.{Clean, Marked, markOf}
 use Rattle.register.proofs.Marks.{marked-none, marked-more, marked-telling}
 use Rattle.register.specs.Register.{registerOf, later}
-use Rattle.register.specs.Marks.{Clean, Marked}
 use Rattle.vocabulary.proofs.Those.{first-end, first-found, those-none}
 use Rattle.vocabulary.specs.Those.{those}
 use lib.ListN.{length, getD}
