@@ -106,6 +106,31 @@ fn clients_that_fall_together() {
     }
 }
 
+/// Clients that share a slot of the library's table, or a place among its marks, with one folder of a second class at every place.
+#[test]
+fn clients_that_crowd() {
+    let slot: Vec<u16> =
+        (1..=65_535_u32).filter(|client| (client + client / 32) % 2048 == 7).map(|client| client as u16).collect();
+    let mark: Vec<u16> = (0..511).map(|client| client * 128 + 1).collect();
+    let mut tally = Tally::default();
+    for crowd in [slot, mark] {
+        for folders in [2, 8, 63, 64, 65, 66, 128, 512] {
+            for clients in [2, 3, folders / 2, folders] {
+                let labels: Vec<(u16, u16)> =
+                    (0..folders).map(|folder| (9, crowd[folder % clients % crowd.len()])).collect();
+                let mut house = Owned::new(1, &labels);
+                assert_eq!(number(&house), 0);
+                for place in 0..folders {
+                    house.classes[place] = 8;
+                    tally.add(number(&house));
+                    house.classes[place] = 9;
+                }
+            }
+        }
+    }
+    tally.met(&[0, 3], 500);
+}
+
 /// 512 folders of so many clients, and one folder of a second class at every place in turn.
 #[test]
 fn a_second_class_at_every_place() {

@@ -29,14 +29,6 @@ registerRecord a =
 
 -- ---- the request
 
-abbrev pub requestOf : ℕ → ℕ → ℕ → policy.Request
-requestOf login folder kind =
-    record {
-      login = login;
-      folder = folder;
-      kind = kind;
-    }
-
 -- What the caller is told, with the log's new end and the next serial. A grant carries how many write rights were taken back,
 -- a refusal its folders.
 abbrev pub replyOf : Answer → ℕ → ℕ → Reply

@@ -7,10 +7,11 @@ ghost use Rattle.audit_log.specs.Reader.{checked, stepAt};
 ghost use Rattle.monitor.specs.Reply.{logOf};
 ghost use Rattle.packing.specs.Outcome.{packs, unpacks};
 ghost use Rattle.policy.specs.Outcome.{outcome, told};
+ghost use Rattle.policy.specs.Session.{request};
 ghost use Rattle.register.specs.Register.{registerOf, registerAnswer};
 ghost use Rattle.serial.specs.Serial.{compared, following};
 ghost use Rattle.varint.specs.Reading.{reading};
-ghost use Rattle.housechervil.specs.Records.{itemOf, numberOf, placedOf, registerRecord, requestOf, written, served};
+ghost use Rattle.housechervil.specs.Records.{itemOf, numberOf, placedOf, registerRecord, written, served};
 
 mod told; // the answers of the crates as records
 
@@ -89,7 +90,7 @@ pub extern "C" fn hc_request(
     end: usize,
     serial: u16,
 ) -> Reply
-    ensures { λ r. ⌜ record { reply = r; matrix = now (matrix .exit); log = now (log .exit) } ≡ served (told (outcome (registerOf logins (now (classes .entry)) (now (clients .entry))) (now (matrix .entry)) (requestOf login folder kind) (logOf (now (log .entry)) end serial))) ⌝ }
+    ensures { λ r. ⌜ record { reply = r; matrix = now (matrix .exit); log = now (log .exit) } ≡ served (told (outcome (registerOf logins (now (classes .entry)) (now (clients .entry))) (now (matrix .entry)) (request kind login folder) (logOf (now (log .entry)) end serial))) ⌝ }
 {
     let reply = monitor::request(
         logins,

@@ -1,5 +1,5 @@
 // Refusal 3 among few folders, in one pass: each folder leaves a mark by its client, one more than its number. Clients that share a place
-// are told apart by the folders themselves, and where a mark tells nothing of a client, its folder is sought plainly.
+// are told apart by the folders themselves, and where a mark tells nothing, the folder is compared with all earlier ones.
 use crate::scan::any_earlier;
 use crate::scan::clashes;
 use ids::ClientNo;
