@@ -11,7 +11,7 @@ use borrow.Author.Tests.{ltb-false}
 use Rattle.vocabulary.proofs.Bools.{true-or-false}
 use Rattle.register.specs.Register.{Register, registerOf, registerAnswer}
 use Rattle.policy.specs.Outcome.{Request, Log, isLogged, outcome}
-use Rattle.policy.specs.Session.{lineOf}
+use Rattle.policy.specs.Session.{answerLine}
 use Rattle.policy.specs.Session as session
 use Rattle.log_exact.proofs.Rising.{rising-less}
 use Rattle.log_exact.proofs.Appended.{logged-well-formed}
@@ -51,13 +51,13 @@ ending-fits text place h = by (leb (length text) place) (bad-line-fits text plac
     by true k = omega arith
     by false k = k
 
-line-fits : (r : Register) (m : List ℕ) (q : Request) (log : Log) → log .serial ≤ 65535 → length (lineText (lineOf log (outcome r m q log))) ≤ 4096
+line-fits : (r : Register) (m : List ℕ) (q : Request) (log : Log) → log .serial ≤ 65535 → length (lineText (answerLine log (outcome r m q log))) ≤ 4096
 line-fits r m q log h = by (true-or-false (isLogged (outcome r m q log .answer)))
   where
     number : outcome r m q log .answer .number < 65536
     number = omega (arith, outcome-most r m q log)
 
-    by : (isLogged (outcome r m q log .answer) ≡ true) ⊎ (isLogged (outcome r m q log .answer) ≡ false) → length (lineText (lineOf log (outcome r m q log))) ≤ 4096
+    by : (isLogged (outcome r m q log .answer) ≡ true) ⊎ (isLogged (outcome r m q log .answer) ≡ false) → length (lineText (answerLine log (outcome r m q log))) ≤ 4096
     by (inl l) =
         let w = logged-well-formed r m q log l h in
         let list = outcome r m q log .answer .carried in

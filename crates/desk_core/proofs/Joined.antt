@@ -13,11 +13,11 @@ use Rattle.vocabulary.proofs.Bools.{true-or-false, both}
 use Rattle.serial.specs.Serial.{following}
 use Rattle.register.specs.Register.{Register, registerOf, folders, registerAnswer}
 use Rattle.policy.specs.Outcome.{Request, Log, Outcome, outcome, isLogged}
-use Rattle.policy.specs.Session.{newLog, session, lineOf}
+use Rattle.policy.specs.Session.{newLog, session, answerLine}
 use Rattle.policy.specs.Session as session
 use Rattle.policy.proofs.Accepted.{in-range}
 use Rattle.log_exact.proofs.Appended.{logged-left}
-use Rattle.log_exact.proofs.Session.{unlogged-left}
+use Rattle.log_exact.proofs.WriterPasses.{unlogged-left}
 use Rattle.desk_core.specs.Lines.{Item, logins, folder, request, ill, lineAt, lineNumber}
 use Rattle.desk_core.specs.Text.{inputTooLong, badLine, badRegister, lineText, linesText}
 use Rattle.desk_core.specs.Output.{Filed, filedAt, askedBy, askedAt, ending, isRequest, served, checkedThen, filedThen, firstThen, output}
@@ -117,7 +117,7 @@ module _ (text : List ℕ)
       let x : Outcome = outcome r matrix (session.request kind login o) log in
       let on = ahead (request kind login o next) place e in
       let rest = ih next (x .matrix) (x .log) (omega (arith, on .0)) in
-      rw e (ap (λ more. lineText (lineOf log x) ++ more) rest ∙ sym (append-assoc (lineText (lineOf log x)) _ _))
+      rw e (ap (λ more. lineText (answerLine log x) ++ more) rest ∙ sym (append-assoc (lineText (answerLine log x)) _ _))
 
   steps-served : (r : Register) (k : ℕ) → Served r k
   unfolding askedBy session linesText

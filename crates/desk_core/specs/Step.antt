@@ -8,7 +8,7 @@ use lib.ListN.{length, replicate}
 use lib.Seq.{sets}
 use Rattle.register.specs.Register.{Register, registerOf, registerAnswer}
 use Rattle.policy.specs.Outcome.{Log, Outcome, outcome}
-use Rattle.policy.specs.Session.{lineOf}
+use Rattle.policy.specs.Session.{answerLine}
 use Rattle.policy.specs.Session as session
 use Rattle.desk_core.specs.declared.Text.{Text}
 use Rattle.desk_core.specs.declared.Opening.{Opening}
@@ -123,7 +123,7 @@ abbrev pub steppedOn : Item → List ℕ → Register → (place : ℕ) → (mat
 steppedOn (request kind login o next) text r place matrix log =
     let x : Outcome = outcome r matrix (session.request kind login o) log in
     record {
-      text = lineText (lineOf log x);
+      text = lineText (answerLine log x);
       onward = true;
       place = next;
       matrix = x .matrix;

@@ -4,7 +4,7 @@ use mathlib.Core.Bool.{cond}
 use mathlib.Core.List.{List, [], _∷_, _++_}
 use lib.Dec.{ltb}
 use Rattle.vocabulary.specs.Answer.{Answer}
-use Rattle.policy.specs.Session.{Line, logged, unlogged}
+use Rattle.policy.specs.Session.{AnswerLine, serialLine, dashLine}
 
 -- A number's digits, of which at most `more` stand before the last.
 unfoldable pub decimalBy : ℕ → ℕ → List ℕ
@@ -45,10 +45,10 @@ loggedText serial number list = printed (decimal serial) (number ∷ list)
 abbrev pub unloggedText : (number : ℕ) → List ℕ
 unloggedText number = printed (45 ∷ []) (number ∷ [])
 
-abbrev pub lineText : Line → List ℕ
-lineText (logged serial number list) = loggedText serial number list
-lineText (unlogged number) = unloggedText number
+abbrev pub lineText : AnswerLine → List ℕ
+lineText (serialLine serial number list) = loggedText serial number list
+lineText (dashLine number) = unloggedText number
 
-unfoldable pub linesText : List Line → List ℕ
+unfoldable pub linesText : List AnswerLine → List ℕ
 linesText [] = []
 linesText (line ∷ lines) = lineText line ++ linesText lines

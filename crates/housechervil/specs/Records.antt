@@ -6,7 +6,7 @@ use lib.Dec.{eqb}
 use lib.ListN.{getD}
 use Rattle.vocabulary.specs.Answer.{Answer}
 use Rattle.policy.specs.Outcome as policy
-use Rattle.packing.specs.Outcome as packing
+use Rattle.packing.specs.CopyOutcome as packing
 use Rattle.housechervil.specs.declared.RegisterAnswer.{RegisterAnswer}
 use Rattle.housechervil.specs.declared.Reply.{Reply}
 use Rattle.housechervil.specs.declared.Placed.{Placed}
@@ -71,7 +71,7 @@ pub record Written : Type 0 where
   pub told : Placed
   pub left : List ℕ
 
-abbrev pub written : packing.Outcome → Written
+abbrev pub written : packing.CopyOutcome → Written
 written x =
     record {
       told = placedOf (x .told);

@@ -5,7 +5,7 @@ use ids::LoginNo;
 ghost use mathlib.Core.Path.{_≡_};
 ghost use Rattle.audit_log.specs.Reader.{checked, stepAt};
 ghost use Rattle.monitor.specs.Reply.{logOf};
-ghost use Rattle.packing.specs.Outcome.{packs, unpacks};
+ghost use Rattle.packing.specs.CopyOutcome.{packs, unpacks};
 ghost use Rattle.policy.specs.Outcome.{outcome, told};
 ghost use Rattle.policy.specs.Session.{request};
 ghost use Rattle.register.specs.Register.{registerOf, registerAnswer};

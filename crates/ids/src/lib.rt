@@ -15,6 +15,13 @@ pub struct ClientNo(pub u16);
 // A class of clients in competition; 0 is the class of a sanitised folder.
 pub struct ClassNo(pub u16);
 
+// What a login asks for: a folder, and by its kind which rights on it. A kind may be any number; only 1 to 4 are served.
+pub struct Request {
+    pub login: LoginNo,
+    pub folder: FolderNo,
+    pub kind: u16,
+}
+
 // Whether two folders' clients are one client.
 pub fn same_client(a: ClientNo, b: ClientNo) -> bool
     ensures { λ r. ⌜ r ≡ eqb (a .0) (b .0) ⌝ }

@@ -8,24 +8,24 @@ use Rattle.audit_log.specs.Record.{recordBytes}
 use Rattle.audit_log.specs.Reader.{stepAt, placeAfter}
 use Rattle.audit_log.specs.WellFormed.{WellFormed, RecordAt, recordAnswer}
 use Rattle.policy.specs.Outcome.{Log, appended}
-use Rattle.log_exact.specs.Exact.{Writing, left, written, entry, Lent, walked, Yields, LogExact}
+use Rattle.log_exact.specs.Exact.{LoggedRequest, left, written, entry, Lent, walked, Yields, LogExact}
 use Rattle.audit_log.proofs.Reader.{list-written, step-writes, step-written, step-yields}
 use Rattle.log_exact.proofs.Appended.{slice-appended, drop-appended, logged-well-formed, logged-room, logged-left}
 use Rattle.log_exact.proofs.Witness.{witness, witness-lent, entry-witness}
 
-module _ (w : Writing) where
+module _ (w : LoggedRequest) where
   room : w .log .end + length (recordBytes (entry w)) ≤ length (w .log .bytes)
-  room = logged-room (w .register) (w .matrix) (w .request) (w .log) (w .logged)
+  room = logged-room (w .register) (w .matrix) (w .request) (w .log) (w .is-logged)
 
   appends : left w .log ≡ appended (w .log) (recordBytes (entry w))
-  appends = logged-left (w .register) (w .matrix) (w .request) (w .log) (w .logged)
+  appends = logged-left (w .register) (w .matrix) (w .request) (w .log) (w .is-logged)
 
   -- The bytes that a request appended are its record's.
   written-bytes : written w ≡ recordBytes (entry w)
   written-bytes = ap (λ (l : Log). slice (w .log .end) (l .end) (l .bytes)) appends ∙ slice-appended (w .log) (recordBytes (entry w)) room
 
   fits : WellFormed (entry w)
-  fits = logged-well-formed (w .register) (w .matrix) (w .request) (w .log) (w .logged) (w .serial)
+  fits = logged-well-formed (w .register) (w .matrix) (w .request) (w .log) (w .is-logged) (w .serial)
 
   read-back : (log : List ℕ) (place : ℕ) (rest : List ℕ) → drop place log ≡ written w ++ rest → stepAt log place ≡ recordAnswer place (entry w)
   read-back log place rest h = step-writes log place (entry w) rest fits (h ∙ ap (λ (l : List ℕ). l ++ rest) written-bytes)
@@ -38,7 +38,7 @@ module _ (w : Writing) where
   drop-left = rw written-bytes (ap (λ (l : Log). drop (w .log .end) (l .bytes)) appends ∙ drop-appended (w .log) (recordBytes (entry w)) room)
 
 -- A record that stands at a place is the witness's.
-yielded : (log : List ℕ) (place : ℕ) (r : RecordAt log place) → (w : Writing) × Lent w × Yields log place w
+yielded : (log : List ℕ) (place : ℕ) (r : RecordAt log place) → (w : LoggedRequest) × Lent w × Yields log place w
 yielded log place r =
     let w = witness (r .entry) (r .well-formed) in
     let same : entry w ≡ r .entry = entry-witness (r .entry) (r .well-formed) in
@@ -53,7 +53,7 @@ yielded log place r =
       },
     )
 
-read-left : (w : Writing) → stepAt (left w .log .bytes) (w .log .end) ≡ recordAnswer (w .log .end) (entry w)
+read-left : (w : LoggedRequest) → stepAt (left w .log .bytes) (w .log .end) ≡ recordAnswer (w .log .end) (entry w)
 read-left w =
     read-back w (left w .log .bytes) (w .log .end) (drop (w .log .end + length (recordBytes (entry w))) (w .log .bytes)) (drop-left w)
 

@@ -3,4 +3,4 @@ pub mod Wall
 pub mod Appended
 pub mod Witness
 pub mod Exact
-pub mod Session
+pub mod WriterPasses

@@ -25,7 +25,7 @@ use Rattle.audit_log.specs.Rule.{canAnswer, badCount}
 use Rattle.audit_log.specs.WellFormed.{WellFormed}
 use Rattle.policy.specs.Rules.{rowOf, cell, writes, revokes, rival, foreign, atStake, rivals, foreigners, stakes, lost}
 use Rattle.policy.specs.Outcome.{Request, Log, requestChecks, wallChecks, wallAnswer, decision, outcome, logged, isLogged, recordOf}
-use Rattle.log_exact.specs.Exact.{Writing, entry, Lent}
+use Rattle.log_exact.specs.Exact.{LoggedRequest, entry, Lent}
 use Rattle.audit_log.proofs.Reader.{Answers, answer-cases}
 use Rattle.log_exact.proofs.Rising.{rising-without, those-rising}
 
@@ -362,7 +362,7 @@ module _ (e : Record) where
     unfolding outcome logged
     answered = rw (decided, told, le-ltb (length (log .bytes) - 0) (length (recordBytes e)) (rw length-replicate (omega arith)))
 
-    pub witness : Writing
+    pub witness : LoggedRequest
     witness =
         record {
           register = register;
@@ -371,7 +371,7 @@ module _ (e : Record) where
           log = log;
           accepted = register-accepted;
           serial = w .serial;
-          logged = rw answered told;
+          is-logged = rw answered told;
         }
 
     pub witness-lent : Lent witness

@@ -15,29 +15,29 @@ use Rattle.audit_log.specs.WellFormed.{headOf, recordAnswer}
 use Rattle.policy.specs.Outcome.{Request, Log, Outcome, isLogged, recordOf, outcome}
 
 -- A request that the writer has logged: to an accepted register, on any matrix and log, with a serial of 16 bits.
-pub record Writing : Type 0 where
+pub record LoggedRequest : Type 0 where
   pub register : Register
   pub matrix : List ℕ
   pub request : Request
   pub log : Log
   pub accepted : Accepted register
   pub serial : log .serial ≤ 65535
-  pub logged : isLogged (outcome register matrix request log .answer) ≡ true
+  pub is-logged : isLogged (outcome register matrix request log .answer) ≡ true
 
 -- What it left.
-abbrev pub left : Writing → Outcome
+abbrev pub left : LoggedRequest → Outcome
 left w = outcome (w .register) (w .matrix) (w .request) (w .log)
 
 -- The very bytes that it appended: those from the log's old end to its new end.
-abbrev pub written : Writing → List ℕ
+abbrev pub written : LoggedRequest → List ℕ
 written w = slice (w .log .end) (left w .log .end) (left w .log .bytes)
 
 -- What was recorded: the request, its serial and its answer.
-abbrev pub entry : Writing → Record
+abbrev pub entry : LoggedRequest → Record
 entry w = recordOf (w .request) (w .log .serial) (left w .answer)
 
 -- A request that can be made: its register's labels have 16 bits, its matrix and its log hold bytes.
-pub record Lent (w : Writing) : Type 0 where
+pub record Lent (w : LoggedRequest) : Type 0 where
   pub classes : (f : ℕ) → classOf (w .register) f ≤ 65535
   pub clients : (f : ℕ) → clientOf (w .register) f ≤ 65535
   pub matrix : Bytes (w .matrix)
@@ -49,21 +49,21 @@ walked log place e = listFrom (length (e .list)) log (place + length (groupsAll 
 
 -- What the reader yields at a place is what a request wrote: its fields, the place of its list and the place after it, and its list; and
 -- its bytes stand there.
-pub record Yields (log : List ℕ) (place : ℕ) (w : Writing) : Type 0 where
+pub record Yields (log : List ℕ) (place : ℕ) (w : LoggedRequest) : Type 0 where
   pub fields : stepAt log place ≡ recordAnswer place (entry w)
   pub list : walked log place (entry w) ≡ entry w .list
   pub bytes : drop place log ≡ written w ++ drop (place + length (written w)) log
 
 pub record LogExact : Type 0 where
   -- Where bytes stand that a request wrote, a step yields its record, whatever stands before and after them.
-  pub reads : (w : Writing) (log : List ℕ) (place : ℕ) (rest : List ℕ) → drop place log ≡ written w ++ rest →
+  pub reads : (w : LoggedRequest) (log : List ℕ) (place : ℕ) (rest : List ℕ) → drop place log ≡ written w ++ rest →
       stepAt log place ≡ recordAnswer place (entry w)
   -- The walk of its list yields what it lists.
-  pub lists : (w : Writing) (log : List ℕ) (place : ℕ) (rest : List ℕ) → drop place log ≡ written w ++ rest →
+  pub lists : (w : LoggedRequest) (log : List ℕ) (place : ℕ) (rest : List ℕ) → drop place log ≡ written w ++ rest →
       walked log place (entry w) ≡ entry w .list
   -- So a step on the log that a request left, at the log's old end, yields its record.
-  pub reads-new : (w : Writing) → stepAt (left w .log .bytes) (w .log .end) ≡ recordAnswer (w .log .end) (entry w)
+  pub reads-new : (w : LoggedRequest) → stepAt (left w .log .bytes) (w .log .end) ≡ recordAnswer (w .log .end) (entry w)
   -- The place after it is the log's new end.
-  pub new-end : (w : Writing) → placeAfter (stepAt (left w .log .bytes) (w .log .end)) ≡ left w .log .end
+  pub new-end : (w : LoggedRequest) → placeAfter (stepAt (left w .log .bytes) (w .log .end)) ≡ left w .log .end
   -- Whatever a step accepts in a list of bytes, some request wrote that can be made.
-  pub accepts : (log : List ℕ) (place : ℕ) → Bytes log → stepAt log place .number ≡ 0 → (w : Writing) × Lent w × Yields log place w
+  pub accepts : (log : List ℕ) (place : ℕ) → Bytes log → stepAt log place .number ≡ 0 → (w : LoggedRequest) × Lent w × Yields log place w

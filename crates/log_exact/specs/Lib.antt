@@ -1,2 +1,2 @@
 pub mod Exact
-pub mod Session
+pub mod WriterPasses

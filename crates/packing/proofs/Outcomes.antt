@@ -10,7 +10,7 @@ use borrow.Author.Tests.{eq-eqb, ne-eqb, ltb-false, le-ltb}
 use Rattle.vocabulary.specs.Answer.{answer, judge}
 use Rattle.vocabulary.specs.Those.{some, smallest}
 use Rattle.packing.specs.Packed.{AllCells, quarter, packed, unpacked, unused}
-use Rattle.packing.specs.Outcome.{outcome, above, aboves, packs, unpacks}
+use Rattle.packing.specs.CopyOutcome.{copyOutcome, above, aboves, packs, unpacks}
 use Rattle.vocabulary.proofs.Those.{those-empty, those-never}
 
 -- where no cell above 3 is found, all are cells
@@ -28,29 +28,29 @@ unfolding aboves
 no-aboves cells all = those-never (above cells) (length cells) (λ i h. le-ltb 3 (getD cells i 0) (all i))
 
 module _ (cells buffer : List ℕ) where
-  pub pack-unequal : (length buffer ≡ quarter (length cells) → ⊥) → outcome (answer 61 []) buffer ≡ packs cells buffer
+  pub pack-unequal : (length buffer ≡ quarter (length cells) → ⊥) → copyOutcome (answer 61 []) buffer ≡ packs cells buffer
   unfolding judge packs
   pack-unequal g = simp (ne-eqb _ _ g)
 
   module _ (fits : length buffer ≡ quarter (length cells)) where
-    pub pack-above : (i : ℕ) → some (aboves cells) ≡ true → i ≡ smallest (aboves cells) → outcome (answer 60 (i ∷ [])) buffer ≡ packs cells buffer
+    pub pack-above : (i : ℕ) → some (aboves cells) ≡ true → i ≡ smallest (aboves cells) → copyOutcome (answer 60 (i ∷ [])) buffer ≡ packs cells buffer
     unfolding judge packs
     pack-above i any is = simp (eq-eqb _ _ fits, any, is)
 
-    pub pack-packed : (now : List ℕ) → aboves cells ≡ [] → now ≡ packed cells → outcome (answer 0 []) now ≡ packs cells buffer
+    pub pack-packed : (now : List ℕ) → aboves cells ≡ [] → now ≡ packed cells → copyOutcome (answer 0 []) now ≡ packs cells buffer
     unfolding judge packs
     pack-packed now none is = simp (eq-eqb _ _ fits, none, is)
 
 module _ (bytes buffer : List ℕ) where
-  pub unpack-unequal : (length bytes ≡ quarter (length buffer) → ⊥) → outcome (answer 61 []) buffer ≡ unpacks bytes buffer
+  pub unpack-unequal : (length bytes ≡ quarter (length buffer) → ⊥) → copyOutcome (answer 61 []) buffer ≡ unpacks bytes buffer
   unfolding judge unpacks
   unpack-unequal g = simp (ne-eqb _ _ g)
 
   module _ (fits : length bytes ≡ quarter (length buffer)) where
-    pub unpack-unused : (unused (length buffer) bytes ≡ 0 → ⊥) → outcome (answer 62 []) buffer ≡ unpacks bytes buffer
+    pub unpack-unused : (unused (length buffer) bytes ≡ 0 → ⊥) → copyOutcome (answer 62 []) buffer ≡ unpacks bytes buffer
     unfolding judge unpacks
     unpack-unused g = simp (eq-eqb _ _ fits, ne-eqb _ _ g)
 
-    pub unpack-unpacked : (now : List ℕ) → unused (length buffer) bytes ≡ 0 → now ≡ unpacked (length buffer) bytes → outcome (answer 0 []) now ≡ unpacks bytes buffer
+    pub unpack-unpacked : (now : List ℕ) → unused (length buffer) bytes ≡ 0 → now ≡ unpacked (length buffer) bytes → copyOutcome (answer 0 []) now ≡ unpacks bytes buffer
     unfolding judge unpacks
     unpack-unpacked now none is = simp (eq-eqb _ _ fits, eq-eqb _ _ none, is)

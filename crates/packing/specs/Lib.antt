@@ -1,5 +1,5 @@
 pub mod Tabulate
 pub mod Packed
-pub mod Outcome
+pub mod CopyOutcome
 pub mod Answers
 pub mod RoundTrip

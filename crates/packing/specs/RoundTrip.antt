@@ -4,7 +4,7 @@ use mathlib.Core.List.{List, []}
 use mathlib.Core.Path.{_≡_}
 use lib.ListN.{length, getD}
 use Rattle.vocabulary.specs.Answer.{answer}
-use Rattle.packing.specs.Outcome.{outcome, packs, unpacks}
+use Rattle.packing.specs.CopyOutcome.{copyOutcome, packs, unpacks}
 
 -- What packing accepts, and writes, is unpacked to the same cells.
 abbrev pub UnpackOfPack : Type 0
@@ -12,7 +12,7 @@ UnpackOfPack =
     (cells buffer room : List ℕ)
     → packs cells buffer .told .number ≡ 0
     → length room ≡ length cells
-    → unpacks (packs cells buffer .left) room ≡ outcome (answer 0 []) cells
+    → unpacks (packs cells buffer .left) room ≡ copyOutcome (answer 0 []) cells
 
 -- What unpacking accepts, and writes, is packed to the same bytes.
 abbrev pub PackOfUnpack : Type 0
@@ -21,4 +21,4 @@ PackOfUnpack =
     → ((k : ℕ) → getD bytes k 0 < 256)
     → unpacks bytes buffer .told .number ≡ 0
     → length room ≡ length bytes
-    → packs (unpacks bytes buffer .left) room ≡ outcome (answer 0 []) bytes
+    → packs (unpacks bytes buffer .left) room ≡ copyOutcome (answer 0 []) bytes

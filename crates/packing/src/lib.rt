@@ -5,7 +5,7 @@ ghost use lib.ListN.{length, getD};
 ghost use Rattle.packing.specs.Packed.{AllCells, quarter, byteOf, byteAt, packed, from, cellAt, unpacked, unused};
 ghost use Rattle.vocabulary.specs.Those.{some, smallest};
 ghost use Rattle.packing.specs.Tabulate.{filled};
-ghost use Rattle.packing.specs.Outcome.{outcome, aboves, packs, unpacks};
+ghost use Rattle.packing.specs.CopyOutcome.{copyOutcome, aboves, packs, unpacks};
 ghost use Rattle.packing.specs.Answers.{packing, unpacking};
 
 // The answers of packing: 0; 60 with the place of the first cell above 3; 61, the lengths don't match.
@@ -121,7 +121,7 @@ fn write_bytes(cells: &[u8], bytes: &mut [u8])
 
 // Packs `cells` into `packed`; a refusal leaves `packed` as it was.
 pub fn pack(cells: &[u8], packed: &mut [u8]) -> Packing
-    ensures { λ r. ⌜ outcome (packing r) (now (packed .exit)) ≡ packs (now (cells .entry)) (now (packed .entry)) ⌝ }
+    ensures { λ r. ⌜ copyOutcome (packing r) (now (packed .exit)) ≡ packs (now (cells .entry)) (now (packed .entry)) ⌝ }
 {
     if packed.len() != bytes_for(cells.len()) {
         return Packing::Unequal;
@@ -183,7 +183,7 @@ fn write_cells(bytes: &[u8], cells: &mut [u8])
 
 // Unpacks `packed` into `cells`; a refusal leaves `cells` as they were.
 pub fn unpack(packed: &[u8], cells: &mut [u8]) -> Unpacking
-    ensures { λ r. ⌜ outcome (unpacking r) (now (cells .exit)) ≡ unpacks (now (packed .entry)) (now (cells .entry)) ⌝ }
+    ensures { λ r. ⌜ copyOutcome (unpacking r) (now (cells .exit)) ≡ unpacks (now (packed .entry)) (now (cells .entry)) ⌝ }
 {
     if bytes_for(cells.len()) != packed.len() {
         return Unpacking::Unequal;

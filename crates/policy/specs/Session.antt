@@ -8,17 +8,17 @@ use Rattle.register.specs.Register.{Register}
 use Rattle.policy.specs.Outcome.{Request, Log, Outcome, outcome, isLogged}
 
 -- A printed line: serial, answer and its folder list, or `-` and the number of a request that was not logged.
-pub data Line : Type 0 where
-  logged : ℕ → ℕ → List ℕ → Line
-  unlogged : ℕ → Line
+pub data AnswerLine : Type 0 where
+  serialLine : ℕ → ℕ → List ℕ → AnswerLine
+  dashLine : ℕ → AnswerLine
 
-abbrev pub lineOf : Log → Outcome → Line
-lineOf log x =
-    cond (isLogged (x .answer)) (logged (log .serial) (x .answer .number) (x .answer .carried)) (unlogged (x .answer .number))
+abbrev pub answerLine : Log → Outcome → AnswerLine
+answerLine log x =
+    cond (isLogged (x .answer)) (serialLine (log .serial) (x .answer .number) (x .answer .carried)) (dashLine (x .answer .number))
 
 -- The lines of a list of requests, and the log that they leave: matrix and log are handed on from request to request.
 pub record Session : Type 0 where
-  pub lines : List Line
+  pub lines : List AnswerLine
   pub log : Log
 
 unfoldable pub session : Register → List ℕ → Log → List Request → Session
@@ -31,7 +31,7 @@ session r matrix log (q ∷ qs) =
     let x : Outcome = outcome r matrix q log in
     let more : Session = session r (x .matrix) (x .log) qs in
     record {
-      lines = lineOf log x ∷ more .lines;
+      lines = answerLine log x ∷ more .lines;
       log = more .log;
     }
 
@@ -69,21 +69,21 @@ tableRequests =
     ∷ request 1 2 0
     ∷ []
 
-abbrev pub tableLines : List Line
+abbrev pub tableLines : List AnswerLine
 tableLines =
-    logged 0 0 []
-    ∷ logged 1 0 []
-    ∷ logged 2 22 (3 ∷ [])
-    ∷ logged 3 0 (3 ∷ [])
-    ∷ logged 4 20 (1 ∷ [])
-    ∷ logged 5 0 []
-    ∷ logged 6 0 []
-    ∷ logged 7 0 (1 ∷ 4 ∷ [])
-    ∷ logged 8 21 (3 ∷ [])
-    ∷ logged 9 0 []
-    ∷ logged 10 21 (2 ∷ [])
-    ∷ logged 11 20 (2 ∷ [])
-    ∷ unlogged 5
+    serialLine 0 0 []
+    ∷ serialLine 1 0 []
+    ∷ serialLine 2 22 (3 ∷ [])
+    ∷ serialLine 3 0 (3 ∷ [])
+    ∷ serialLine 4 20 (1 ∷ [])
+    ∷ serialLine 5 0 []
+    ∷ serialLine 6 0 []
+    ∷ serialLine 7 0 (1 ∷ 4 ∷ [])
+    ∷ serialLine 8 21 (3 ∷ [])
+    ∷ serialLine 9 0 []
+    ∷ serialLine 10 21 (2 ∷ [])
+    ∷ serialLine 11 20 (2 ∷ [])
+    ∷ dashLine 5
     ∷ []
 
 -- The log of a new desk: 65,536 bytes, the first serial 0.

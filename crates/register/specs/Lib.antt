@@ -1,4 +1,5 @@
 pub mod Register
+pub mod Lent
 pub mod Label
 pub mod Chains
 pub mod Marks

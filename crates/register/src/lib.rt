@@ -15,6 +15,7 @@ ghost use Prim.Native.Nat.{_≤_};
 ghost use mathlib.Core.Path.{_≡_};
 ghost use lib.ListN.{length, getD};
 ghost use Rattle.register.specs.Label.{labelOf};
+ghost use Rattle.register.specs.Lent.{lent};
 ghost use Rattle.register.specs.Register.{registerOf, inRange, later, registerAnswer};
 ghost use Rattle.register.specs.Verdict.{verdictAnswer};
 
@@ -56,7 +57,7 @@ fn folder(place: usize) -> FolderNo
 
 // Whether P and F are within their ranges and the lists of one length.
 fn in_range(logins: usize, classes: &[u16], clients: &[u16]) -> bool
-    ensures { λ r. ⌜ r ≡ inRange (registerOf logins (now (classes .entry)) (now (clients .entry))) ⌝ }
+    ensures { λ r. ⌜ r ≡ inRange (lent logins classes clients) ⌝ }
 {
     (1 <= logins)
         & (logins <= 128)
@@ -78,7 +79,7 @@ fn first_later(classes: &[u16], clients: &[u16]) -> usize
 
 // The register check: the table's rows 1 to 3.
 pub fn check(logins: usize, classes: &[u16], clients: &[u16]) -> Verdict
-    ensures { λ r. ⌜ verdictAnswer r ≡ registerAnswer (registerOf logins (now (classes .entry)) (now (clients .entry))) ⌝ }
+    ensures { λ r. ⌜ verdictAnswer r ≡ registerAnswer (lent logins classes clients) ⌝ }
 {
     if !in_range(logins, classes, clients) {
         return Verdict::OutOfRange;

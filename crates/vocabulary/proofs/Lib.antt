@@ -4,3 +4,4 @@ pub mod Bools
 pub mod Each
 pub mod Order
 pub mod Sets
+pub mod Parsed

@@ -1,3 +1,4 @@
 pub mod Answer
 pub mod Those
 pub mod Each
+pub mod Parsed

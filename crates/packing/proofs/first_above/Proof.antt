@@ -3,7 +3,7 @@ use mathlib.Core.Path.{ap, sym, _∙_}
 use Prim.Native.Nat.{_≤_, _-_}
 use mathlib.Core.Path.{_≡_, refl}
 use lib.ListN.{length}
-use Rattle.packing.specs.Outcome.{above, aboves}
+use Rattle.packing.specs.CopyOutcome.{above, aboves}
 use Rattle.vocabulary.specs.Those.{those, smallest}
 use mathlib.Core.List.{[]}
 use borrow.Author.Tests.{lt-ltb, le-ltb}

@@ -7,13 +7,13 @@ use Rattle.vocabulary.specs.Answer.{answer}
 use Rattle.register.specs.Register.{Register}
 use Rattle.audit_log.specs.Reader.{checked}
 use Rattle.policy.specs.Outcome.{Request, Log}
-use Rattle.policy.specs.Session.{Line, Session, logged, unlogged, session}
+use Rattle.policy.specs.Session.{AnswerLine, Session, serialLine, dashLine, session}
 
 -- How many of a session's requests were logged.
-abbrev pub records : List Line → ℕ
+abbrev pub records : List AnswerLine → ℕ
 records [] = 0
-records (logged serial number carried ∷ lines) = suc (records lines)
-records (unlogged number ∷ lines) = records lines
+records (serialLine serial number carried ∷ lines) = suc (records lines)
+records (dashLine number ∷ lines) = records lines
 
 -- An empty log in a lent buffer, from any first serial.
 abbrev pub emptyLog : List ℕ → ℕ → Log

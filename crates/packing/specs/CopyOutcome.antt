@@ -9,20 +9,20 @@ use Rattle.vocabulary.specs.Those.{those, some, smallest}
 use Rattle.packing.specs.Packed.{quarter, packed, unpacked, unused}
 
 -- The answer, and the lent buffer afterwards.
-pub record Outcome : Type 0 where
+pub record CopyOutcome : Type 0 where
   pub told : Answer
   pub left : List ℕ
 
-abbrev pub outcome : Answer → List ℕ → Outcome
-outcome a l =
+abbrev pub copyOutcome : Answer → List ℕ → CopyOutcome
+copyOutcome a l =
     record {
       told = a;
       left = l;
     }
 
 -- An answer 0 leaves the result; a refusal changes nothing.
-abbrev pub leaves : Answer → List ℕ → List ℕ → Outcome
-leaves a result buffer = outcome a (cond (eqb (a .number) 0) result buffer)
+abbrev pub leaves : Answer → List ℕ → List ℕ → CopyOutcome
+leaves a result buffer = copyOutcome a (cond (eqb (a .number) 0) result buffer)
 
 -- '61 for lengths that don't match.'
 abbrev pub unequal : ℕ → ℕ → Bool
@@ -42,7 +42,7 @@ packAnswer cells buffer =
     (check (unequal (length buffer) (length cells)) 61 [] ∷ check (some (aboves cells)) 60 (smallest (aboves cells) ∷ []) ∷ [])
     (answer 0 [])
 
-unfoldable pub packs : List ℕ → List ℕ → Outcome
+unfoldable pub packs : List ℕ → List ℕ → CopyOutcome
 packs cells buffer = leaves (packAnswer cells buffer) (packed cells) buffer
 
 -- Unpacking: '61 .., then 62 for unused bits set'.
@@ -52,5 +52,5 @@ unpackAnswer bytes buffer =
     (check (unequal (length bytes) (length buffer)) 61 [] ∷ check (not (eqb (unused (length buffer) bytes) 0)) 62 [] ∷ [])
     (answer 0 [])
 
-unfoldable pub unpacks : List ℕ → List ℕ → Outcome
+unfoldable pub unpacks : List ℕ → List ℕ → CopyOutcome
 unpacks bytes buffer = leaves (unpackAnswer bytes buffer) (unpacked (length buffer) bytes) buffer
