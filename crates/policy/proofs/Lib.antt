@@ -1,6 +1,7 @@
 pub mod Wall
 pub mod Accepted
 pub mod Rows
+pub mod Rules
 pub mod Outcome
 pub mod Shown
 pub mod Demand3

@@ -1,35 +1,36 @@
 -- The 1989 paper's theorems 1, 2 and 4 follow from what every history keeps.
-use Prim.Native.Nat.{ℕ, _<_}
-use mathlib.Core.Path.{_≡_, refl, sym, _∙_}
+use Prim.Native.Nat.{ℕ}
+use mathlib.Core.Path.{_≡_, refl}
 use mathlib.Core.Logic.{⊎-elim}
-use mathlib.Core.Bool.{true, false}
 use mathlib.Core.List.{List}
 use native.Mathlib.Decide.{ℕ-discrete}
-use lib.Dec.{eqb}
-use borrow.Author.Tests.{eq-eqb, ne-eqb}
 use Rattle.vocabulary.proofs.Bools.{not-both}
-use Rattle.register.specs.Register.{Register, Accepted, classOf, clientOf}
-use Rattle.policy.specs.Outcome.{Request, Log, outcome}
-use Rattle.policy.specs.Wall.{OneClass, classWall}
-use Rattle.policy.specs.History.{Step, State, blank, run}
+use Rattle.register.specs.Register.{clientOf}
+use Rattle.policy.specs.Rules.{rowOf}
+use Rattle.policy.specs.Wall.{OneClass}
+use Rattle.policy.specs.History.{State, blank, run}
 use Rattle.policy.specs.Papers.{Theorem1, Theorem2, Theorem4}
-use Rattle.policy.proofs.Outcome.{Decided, outcome-cases}
+use Rattle.policy.proofs.Outcome.{outcome-cases}
 use Rattle.policy.proofs.Shown.{read-known}
-use Rattle.policy.proofs.Demand3.{Kept, kept-after, readable, wall-granted, no-rivals}
+use Rattle.policy.proofs.Rules.{rival-found, no-rivals, wall-granted}
+use Rattle.policy.proofs.Demand3.{Kept, kept-after, readable}
 
 pub theorem1 : Theorem1
 theorem1 r ok steps f q log may class other granted =
     ⊎-elim
     (λ d.
-    let clear = wall-granted r ok σ kept q log d (rw (d .answered) at granted) .0 in
+    let clear = wall-granted r row (q .folder) (q .kind) (rw (d .answered) at granted) .0 in
     not-both
-    (rw (readable r ok σ kept q log d f may, eq-eqb (classOf r f) (classOf r (q .folder)) class, ne-eqb (clientOf r f) (clientOf r (q .folder)) other) refl)
-    (no-rivals r ok σ kept q log d clear f (read-known r σ (kept .shown) (q .login) f may)))
+    (rival-found r row (q .folder) f (readable r ok σ kept q log d f may) class other)
+    (no-rivals r row (q .folder) (q .kind) clear f (read-known r σ (kept .shown) (q .login) f may)))
     (λ n. not-both (rw granted refl) (n .0))
     (outcome-cases r (σ .matrix) q log)
   where
     σ : State
     σ = run r (blank r) steps
+
+    row : List ℕ
+    row = rowOf r (σ .matrix) (q .login)
 
     kept : Kept r (run r (blank r) steps)
     kept = kept-after r ok steps
