@@ -1,7 +1,10 @@
+-- The rules:
 pub mod Rules
 pub mod Outcome
+-- The words of demand 3:
 pub mod Wall
 pub mod History
+-- Claims:
 pub mod Demand3
 pub mod Papers
 pub mod Session

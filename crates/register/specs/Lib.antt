@@ -1,6 +1,9 @@
+-- The rules:
 pub mod Register
-pub mod Lent
 pub mod Label
+pub mod Verdict
+-- The register as it is lent:
+pub mod Lent
+-- Internal:
 pub mod Chains
 pub mod Marks
-pub mod Verdict

@@ -1,3 +1,4 @@
+-- The words of every definition:
 pub mod Answer
 pub mod Those
 pub mod Each
