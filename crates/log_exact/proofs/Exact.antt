@@ -5,57 +5,57 @@ use mathlib.Core.List.{List, _++_}
 use lib.ListN.{length, drop}
 use lib.Seq.{slice}
 use Rattle.audit_log.specs.Record.{recordBytes}
-use Rattle.audit_log.specs.Reader.{stepAt, placeAfter}
-use Rattle.audit_log.specs.WellFormed.{WellFormed, RecordAt, recordAnswer}
+use Rattle.audit_log.specs.Reader.{entry, entryAt, stepAt, placeAfter}
+use Rattle.audit_log.specs.WellFormed.{WellFormed, RecordAt}
 use Rattle.policy.specs.Outcome.{Log, appended}
-use Rattle.log_exact.specs.Exact.{LoggedRequest, left, written, entry, Lent, walked, Yields, LogExact}
+use Rattle.log_exact.specs.Exact.{LoggedRequest, left, written, recorded, Lent, walked, Yields, LogExact}
 use Rattle.audit_log.proofs.Reader.{list-written, step-writes, step-written, step-yields}
 use Rattle.log_exact.proofs.Appended.{slice-appended, drop-appended, logged-well-formed, logged-room, logged-left}
-use Rattle.log_exact.proofs.Witness.{witness, witness-lent, entry-witness}
+use Rattle.log_exact.proofs.Witness.{witness, witness-lent, recorded-witness}
 
 module _ (w : LoggedRequest) where
-  room : w .log .end + length (recordBytes (entry w)) ≤ length (w .log .bytes)
+  room : w .log .end + length (recordBytes (recorded w)) ≤ length (w .log .bytes)
   room = logged-room (w .register) (w .matrix) (w .request) (w .log) (w .is-logged)
 
-  appends : left w .log ≡ appended (w .log) (recordBytes (entry w))
+  appends : left w .log ≡ appended (w .log) (recordBytes (recorded w))
   appends = logged-left (w .register) (w .matrix) (w .request) (w .log) (w .is-logged)
 
   -- The bytes that a request appended are its record's.
-  written-bytes : written w ≡ recordBytes (entry w)
-  written-bytes = ap (λ (l : Log). slice (w .log .end) (l .end) (l .bytes)) appends ∙ slice-appended (w .log) (recordBytes (entry w)) room
+  written-bytes : written w ≡ recordBytes (recorded w)
+  written-bytes = ap (λ (l : Log). slice (w .log .end) (l .end) (l .bytes)) appends ∙ slice-appended (w .log) (recordBytes (recorded w)) room
 
-  fits : WellFormed (entry w)
+  fits : WellFormed (recorded w)
   fits = logged-well-formed (w .register) (w .matrix) (w .request) (w .log) (w .is-logged) (w .serial)
 
-  read-back : (log : List ℕ) (place : ℕ) (rest : List ℕ) → drop place log ≡ written w ++ rest → stepAt log place ≡ recordAnswer place (entry w)
-  read-back log place rest h = step-writes log place (entry w) rest fits (h ∙ ap (λ (l : List ℕ). l ++ rest) written-bytes)
+  read-back : (log : List ℕ) (place : ℕ) (rest : List ℕ) → drop place log ≡ written w ++ rest → stepAt log place ≡ entry (entryAt place (recorded w))
+  read-back log place rest h = step-writes log place (recorded w) rest fits (h ∙ ap (λ (l : List ℕ). l ++ rest) written-bytes)
 
-  list-back : (log : List ℕ) (place : ℕ) (rest : List ℕ) → drop place log ≡ written w ++ rest → walked log place (entry w) ≡ entry w .list
-  list-back log place rest h = list-written log place (entry w) rest fits (h ∙ ap (λ (l : List ℕ). l ++ rest) written-bytes)
+  list-back : (log : List ℕ) (place : ℕ) (rest : List ℕ) → drop place log ≡ written w ++ rest → walked log (entryAt place (recorded w)) ≡ recorded w .list
+  list-back log place rest h = list-written log place (recorded w) rest fits (h ∙ ap (λ (l : List ℕ). l ++ rest) written-bytes)
 
   -- In the log that it left they stand at the old end.
-  drop-left : drop (w .log .end) (left w .log .bytes) ≡ written w ++ drop (w .log .end + length (recordBytes (entry w))) (w .log .bytes)
-  drop-left = rw written-bytes (ap (λ (l : Log). drop (w .log .end) (l .bytes)) appends ∙ drop-appended (w .log) (recordBytes (entry w)) room)
+  drop-left : drop (w .log .end) (left w .log .bytes) ≡ written w ++ drop (w .log .end + length (recordBytes (recorded w))) (w .log .bytes)
+  drop-left = rw written-bytes (ap (λ (l : Log). drop (w .log .end) (l .bytes)) appends ∙ drop-appended (w .log) (recordBytes (recorded w)) room)
 
 -- A record that stands at a place is the witness's.
 yielded : (log : List ℕ) (place : ℕ) (r : RecordAt log place) → (w : LoggedRequest) × Lent w × Yields log place w
 yielded log place r =
     let w = witness (r .entry) (r .well-formed) in
-    let same : entry w ≡ r .entry = entry-witness (r .entry) (r .well-formed) in
+    let same : recorded w ≡ r .entry = recorded-witness (r .entry) (r .well-formed) in
     let bytes : written w ≡ recordBytes (r .entry) = written-bytes w ∙ ap recordBytes same in
     let stands : drop place log ≡ written w ++ drop (place + length (written w)) log = r .bytes ∙ ap (λ (l : List ℕ). l ++ drop (place + length l) log) (sym bytes) in (
       w,
       witness-lent (r .entry) (r .well-formed),
       record {
-        fields = step-yields log place r ∙ ap (recordAnswer place) (sym same);
+        fields = step-yields log place r ∙ ap (λ x. entry (entryAt place x)) (sym same);
         list = list-back w log place (drop (place + length (written w)) log) stands;
         bytes = stands;
       },
     )
 
-read-left : (w : LoggedRequest) → stepAt (left w .log .bytes) (w .log .end) ≡ recordAnswer (w .log .end) (entry w)
+read-left : (w : LoggedRequest) → stepAt (left w .log .bytes) (w .log .end) ≡ entry (entryAt (w .log .end) (recorded w))
 read-left w =
-    read-back w (left w .log .bytes) (w .log .end) (drop (w .log .end + length (recordBytes (entry w))) (w .log .bytes)) (drop-left w)
+    read-back w (left w .log .bytes) (w .log .end) (drop (w .log .end + length (recordBytes (recorded w))) (w .log .bytes)) (drop-left w)
 
 pub log-exact : LogExact
 log-exact =
@@ -63,6 +63,6 @@ log-exact =
       reads = read-back;
       lists = list-back;
       reads-new = read-left;
-      new-end = λ w. ap placeAfter (read-left w) ∙ sym (ap (λ (l : Log). l .end) (appends w));
-      accepts = λ log place bs e. yielded log place (step-written log place bs e);
+      new-end = λ w. ap (placeAfter (w .log .end)) (read-left w) ∙ sym (ap (λ (l : Log). l .end) (appends w));
+      accepts = λ log place e bs h. yielded log place (step-written log place e bs h);
     }

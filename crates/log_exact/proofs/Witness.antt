@@ -21,11 +21,11 @@ use Rattle.vocabulary.proofs.Order.{lt-or-le}
 use Rattle.vocabulary.proofs.Bools.{neither, eqb-self, true-or-false, cond-same}
 use Rattle.register.specs.Register.{Register, folders, classOf, clientOf, exactlyOne, loneZero, differs, earlier, later, registerChecks, registerAnswer, Accepted}
 use Rattle.audit_log.specs.Record.{Record, recordBytes}
-use Rattle.audit_log.specs.Rule.{canAnswer, badCount}
+use Rattle.log_fields.specs.Rule.{canAnswer, badCount}
 use Rattle.audit_log.specs.WellFormed.{WellFormed}
 use Rattle.policy.specs.Rules.{rowOf, cell, writes, revokes, rival, foreign, atStake, rivals, foreigners, stakes, lost}
 use Rattle.policy.specs.Outcome.{Request, Log, requestChecks, wallChecks, wallAnswer, decision, outcome, logged, isLogged, recordOf}
-use Rattle.log_exact.specs.Exact.{LoggedRequest, entry, Lent}
+use Rattle.log_exact.specs.Exact.{LoggedRequest, recorded, Lent}
 use Rattle.audit_log.proofs.Reader.{Answers, answer-cases}
 use Rattle.log_exact.proofs.Rising.{rising-without, those-rising}
 
@@ -384,6 +384,6 @@ module _ (e : Record) where
           log = λ i. rw (getD-zeros (length (recordBytes e)) i) (omega arith);
         }
 
-    pub entry-witness : entry witness ≡ e
+    pub recorded-witness : recorded witness ≡ e
     unfolding witness
-    entry-witness = ap (recordOf request (e .serial)) answered
+    recorded-witness = ap (recordOf request (e .serial)) answered

@@ -7,11 +7,9 @@ use mathlib.Core.List.{List, _++_}
 use lib.ListN.{length, drop}
 use lib.Seq.{slice}
 use Rattle.varint.specs.Bytes.{Bytes}
-use Rattle.varint.specs.Groups.{groupsAll}
 use Rattle.register.specs.Register.{Register, Accepted, classOf, clientOf}
 use Rattle.audit_log.specs.Record.{Record}
-use Rattle.audit_log.specs.Reader.{listFrom, stepAt, placeAfter}
-use Rattle.audit_log.specs.WellFormed.{headOf, recordAnswer}
+use Rattle.audit_log.specs.Reader.{Entry, entry, entryAt, listFrom, stepAt, placeAfter}
 use Rattle.policy.specs.Outcome.{Request, Log, Outcome, isLogged, recordOf, outcome}
 
 -- A request that the writer has logged: to an accepted register, on any matrix and log, with a serial of 16 bits.
@@ -33,8 +31,8 @@ abbrev pub written : LoggedRequest → List ℕ
 written w = slice (w .log .end) (left w .log .end) (left w .log .bytes)
 
 -- What was recorded: the request, its serial and its answer.
-abbrev pub entry : LoggedRequest → Record
-entry w = recordOf (w .request) (w .log .serial) (left w .answer)
+abbrev pub recorded : LoggedRequest → Record
+recorded w = recordOf (w .request) (w .log .serial) (left w .answer)
 
 -- A request that can be made: its register's labels have 16 bits, its matrix and its log hold bytes.
 pub record Lent (w : LoggedRequest) : Type 0 where
@@ -43,27 +41,27 @@ pub record Lent (w : LoggedRequest) : Type 0 where
   pub matrix : Bytes (w .matrix)
   pub log : Bytes (w .log .bytes)
 
--- The list that the reader of a record walks, from the place that the record gives.
-abbrev pub walked : List ℕ → ℕ → Record → List ℕ
-walked log place e = listFrom (length (e .list)) log (place + length (groupsAll (headOf e)))
+-- The list that the reader of a record walks: as many folders as the record counts, from the place that it gives.
+abbrev pub walked : List ℕ → Entry → List ℕ
+walked log e = listFrom (e .count) log (e .list)
 
 -- What the reader yields at a place is what a request wrote: its fields, the place of its list and the place after it, and its list; and
 -- its bytes stand there.
 pub record Yields (log : List ℕ) (place : ℕ) (w : LoggedRequest) : Type 0 where
-  pub fields : stepAt log place ≡ recordAnswer place (entry w)
-  pub list : walked log place (entry w) ≡ entry w .list
+  pub fields : stepAt log place ≡ entry (entryAt place (recorded w))
+  pub list : walked log (entryAt place (recorded w)) ≡ recorded w .list
   pub bytes : drop place log ≡ written w ++ drop (place + length (written w)) log
 
 pub record LogExact : Type 0 where
   -- Where bytes stand that a request wrote, a step yields its record, whatever stands before and after them.
   pub reads : (w : LoggedRequest) (log : List ℕ) (place : ℕ) (rest : List ℕ) → drop place log ≡ written w ++ rest →
-      stepAt log place ≡ recordAnswer place (entry w)
+      stepAt log place ≡ entry (entryAt place (recorded w))
   -- The walk of its list yields what it lists.
   pub lists : (w : LoggedRequest) (log : List ℕ) (place : ℕ) (rest : List ℕ) → drop place log ≡ written w ++ rest →
-      walked log place (entry w) ≡ entry w .list
+      walked log (entryAt place (recorded w)) ≡ recorded w .list
   -- So a step on the log that a request left, at the log's old end, yields its record.
-  pub reads-new : (w : LoggedRequest) → stepAt (left w .log .bytes) (w .log .end) ≡ recordAnswer (w .log .end) (entry w)
+  pub reads-new : (w : LoggedRequest) → stepAt (left w .log .bytes) (w .log .end) ≡ entry (entryAt (w .log .end) (recorded w))
   -- The place after it is the log's new end.
-  pub new-end : (w : LoggedRequest) → placeAfter (stepAt (left w .log .bytes) (w .log .end)) ≡ left w .log .end
+  pub new-end : (w : LoggedRequest) → placeAfter (w .log .end) (stepAt (left w .log .bytes) (w .log .end)) ≡ left w .log .end
   -- Whatever a step accepts in a list of bytes, some request wrote that can be made.
-  pub accepts : (log : List ℕ) (place : ℕ) → Bytes log → stepAt log place .number ≡ 0 → (w : LoggedRequest) × Lent w × Yields log place w
+  pub accepts : (log : List ℕ) (place : ℕ) (e : Entry) → Bytes log → stepAt log place ≡ entry e → (w : LoggedRequest) × Lent w × Yields log place w
