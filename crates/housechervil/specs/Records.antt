@@ -5,13 +5,16 @@ use mathlib.Core.List.{List}
 use lib.Dec.{eqb}
 use lib.ListN.{getD}
 use Rattle.vocabulary.specs.Answer.{Answer}
-use Rattle.policy.specs.Outcome as policy
-use Rattle.packing.specs.CopyOutcome as packing
-use Rattle.housechervil.specs.declared.RegisterAnswer.{RegisterAnswer}
-use Rattle.housechervil.specs.declared.Reply.{Reply}
-use Rattle.housechervil.specs.declared.Placed.{Placed}
-use Rattle.housechervil.specs.declared.LogItem.{LogItem}
-use Rattle.housechervil.specs.declared.Number.{Number}
+use Rattle.response.specs.Response.{numbersOf}
+use Rattle.response.specs.declared.Numbers.{Numbers}
+use Rattle.audit_log.specs.Reader.{Entry, Item, entry, end, refusal}
+use Rattle.policy.specs.Outcome.{Log, Outcome, toldAnswer}
+use Rattle.packing.specs.CopyOutcome.{CopyOutcome}
+use Rattle.housechervil.specs.declared.HcRegisterAnswer.{HcRegisterAnswer}
+use Rattle.housechervil.specs.declared.HcReply.{HcReply}
+use Rattle.housechervil.specs.declared.HcPlaced.{HcPlaced}
+use Rattle.housechervil.specs.declared.HcLogItem.{HcLogItem}
+use Rattle.housechervil.specs.declared.HcNumber.{HcNumber}
 
 -- The value that an answer carries at a place of its list, counted from 0.
 abbrev pub carriedAt : ℕ → Answer → ℕ
@@ -19,7 +22,7 @@ carriedAt i a = getD (a .carried) i 0
 
 -- ---- the register
 
-abbrev pub registerRecord : Answer → RegisterAnswer
+abbrev pub registerRecord : Answer → HcRegisterAnswer
 registerRecord a =
     record {
       number = a .number;
@@ -29,37 +32,49 @@ registerRecord a =
 
 -- ---- the request
 
--- What the caller is told, with the log's new end and the next serial. A grant carries how many write rights were taken back,
--- a refusal its folders.
-abbrev pub replyOf : Answer → ℕ → ℕ → Reply
+-- What the caller is told, with the log's new end and the next serial.
+abbrev pub replyOf : Answer → ℕ → ℕ → HcReply
 replyOf a end serial =
+    let n : Numbers = numbersOf a in
     record {
-      number = a .number;
-      first = cond (eqb (a .number) 0) 0 (carriedAt 0 a);
-      second = carriedAt 1 a;
-      count = cond (eqb (a .number) 0) (carriedAt 0 a) 0;
+      number = n .number;
+      first = n .first;
+      second = n .second;
+      count = n .count;
+      end = end;
+      serial = serial;
+    }
+
+-- The log that a caller lends: its buffer, its end and the next serial.
+abbrev pub logAt : List ℕ → ℕ → ℕ → Log
+logAt bytes end serial =
+    record {
+      bytes = bytes;
       end = end;
       serial = serial;
     }
 
 -- What the caller has after a request: the reply, the matrix and the log's bytes.
 pub record Served : Type 0 where
-  pub reply : Reply
+  pub reply : HcReply
   pub matrix : List ℕ
   pub log : List ℕ
 
-abbrev pub served : policy.Outcome → Served
-served x =
+abbrev pub servedBy : HcReply → List ℕ → List ℕ → Served
+servedBy reply matrix log =
     record {
-      reply = replyOf (x .answer) (x .log .end) (x .log .serial);
-      matrix = x .matrix;
-      log = x .log .bytes;
+      reply = reply;
+      matrix = matrix;
+      log = log;
     }
+
+abbrev pub served : Outcome → Served
+served x = servedBy (replyOf (toldAnswer (x .answer)) (x .log .end) (x .log .serial)) (x .matrix) (x .log .bytes)
 
 -- ---- a place or a number
 
 -- An answer that carries at most one value, a place or a number of records.
-abbrev pub placedOf : Answer → Placed
+abbrev pub placedOf : Answer → HcPlaced
 placedOf a =
     record {
       number = a .number;
@@ -67,12 +82,12 @@ placedOf a =
     }
 
 -- What the caller has after packing or unpacking: the answer and the lent buffer.
-pub record Written : Type 0 where
-  pub told : Placed
+pub record Copied : Type 0 where
+  pub told : HcPlaced
   pub left : List ℕ
 
-abbrev pub written : packing.CopyOutcome → Written
-written x =
+abbrev pub copied : CopyOutcome → Copied
+copied x =
     record {
       told = placedOf (x .told);
       left = x .left;
@@ -81,7 +96,7 @@ written x =
 -- ---- the log
 
 -- An item that carries a place alone: the end, or a refusal.
-abbrev pub placedItem : ℕ → ℕ → LogItem
+abbrev pub placedItem : ℕ → ℕ → HcLogItem
 placedItem number place =
     record {
       number = number;
@@ -96,26 +111,28 @@ placedItem number place =
     }
 
 -- A record's fields, the place of its list and the place after it.
-abbrev pub recordItem : Answer → LogItem
-recordItem a =
+abbrev pub entryItem : Entry → HcLogItem
+entryItem e =
     record {
       number = 0;
-      serial = carriedAt 0 a;
-      login = carriedAt 1 a;
-      folder = carriedAt 2 a;
-      kind = carriedAt 3 a;
-      answer = carriedAt 4 a;
-      count = carriedAt 5 a;
-      list = carriedAt 6 a;
-      place = carriedAt 7 a;
+      serial = e .serial;
+      login = e .login;
+      folder = e .folder;
+      kind = e .kind;
+      answer = e .answer;
+      count = e .count;
+      list = e .list;
+      place = e .next;
     }
 
--- What a step yields: 0 is a record.
-abbrev pub itemOf : Answer → LogItem
-itemOf a = cond (eqb (a .number) 0) (recordItem a) (placedItem (a .number) (carriedAt 0 a))
+-- What a step yields. Document 01 gives a record and the end no numbers; they are 0 and 1.
+abbrev pub logItem : Item → HcLogItem
+logItem (entry e) = entryItem e
+logItem (end place) = placedItem 1 place
+logItem (refusal a) = placedItem (a .number) (carriedAt 0 a)
 
 -- A number read and the place after it, or the place of a number that is refused.
-abbrev pub numberOf : Answer → Number
+abbrev pub numberOf : Answer → HcNumber
 numberOf a =
     cond (eqb (a .number) 0)
     (record {

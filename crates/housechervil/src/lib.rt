@@ -2,22 +2,24 @@
 // No rule stands here; include/housechervil.h says for callers what each entry means.
 use ids::FolderNo;
 use ids::LoginNo;
+use ids::Request;
+use monitor::Tail;
 ghost use mathlib.Core.Path.{_≡_};
 ghost use Rattle.audit_log.specs.Reader.{checked, stepAt};
-ghost use Rattle.monitor.specs.Reply.{logOf};
 ghost use Rattle.packing.specs.CopyOutcome.{packs, unpacks};
-ghost use Rattle.policy.specs.Outcome.{outcome, told};
+ghost use Rattle.policy.specs.Outcome.{outcome};
 ghost use Rattle.policy.specs.Session.{request};
-ghost use Rattle.register.specs.Register.{registerOf, registerAnswer};
+ghost use Rattle.register.specs.Lent.{lent};
+ghost use Rattle.register.specs.Register.{registerAnswer};
 ghost use Rattle.serial.specs.Serial.{compared, following};
 ghost use Rattle.varint.specs.Reading.{reading};
-ghost use Rattle.housechervil.specs.Records.{itemOf, numberOf, placedOf, registerRecord, written, served};
+ghost use Rattle.housechervil.specs.Records.{copied, logAt, logItem, numberOf, placedOf, registerRecord, served, servedBy};
 
 mod told; // the answers of the crates as records
 
 // hc_register_answer: the number of the answer and the folders that it carries.
 #[repr(C)]
-pub struct RegisterAnswer {
+pub struct HcRegisterAnswer {
     pub number: u16,
     pub first: u16,
     pub second: u16,
@@ -25,7 +27,7 @@ pub struct RegisterAnswer {
 
 // hc_reply: the number, the folders carried, the write rights taken back by a grant, the log's new end and the next serial.
 #[repr(C)]
-pub struct Reply {
+pub struct HcReply {
     pub number: u16,
     pub first: u16,
     pub second: u16,
@@ -36,7 +38,7 @@ pub struct Reply {
 
 // hc_placed: the number, and the place or the number of records that it carries.
 #[repr(C)]
-pub struct Placed {
+pub struct HcPlaced {
     pub number: u16,
     pub value: usize,
 }
@@ -44,7 +46,7 @@ pub struct Placed {
 // hc_log_item: 0 and a record's fields, with the place of its list and the place after it; 1 and the log's length; or a refusal and its
 // place.
 #[repr(C)]
-pub struct LogItem {
+pub struct HcLogItem {
     pub number: u16,
     pub serial: u16,
     pub login: u16,
@@ -58,7 +60,7 @@ pub struct LogItem {
 
 // hc_number: 0, a number and the place after it; or a refusal and the place of the number's first byte.
 #[repr(C)]
-pub struct Number {
+pub struct HcNumber {
     pub number: u16,
     pub value: u16,
     pub place: usize,
@@ -70,8 +72,8 @@ pub extern "C" fn hc_register_check(
     logins: usize,
     classes: &[u16],
     clients: &[u16],
-) -> RegisterAnswer
-    ensures { λ r. ⌜ r ≡ registerRecord (registerAnswer (registerOf logins (now (classes .entry)) (now (clients .entry)))) ⌝ }
+) -> HcRegisterAnswer
+    ensures { λ r. ⌜ r ≡ registerRecord (registerAnswer (lent logins classes clients)) ⌝ }
 {
     told::verdict(register::check(logins, classes, clients))
 }
@@ -89,23 +91,19 @@ pub extern "C" fn hc_request(
     log: &mut [u8],
     end: usize,
     serial: u16,
-) -> Reply
-    ensures { λ r. ⌜ record { reply = r; matrix = now (matrix .exit); log = now (log .exit) } ≡ served (told (outcome (registerOf logins (now (classes .entry)) (now (clients .entry))) (now (matrix .entry)) (request kind login folder) (logOf (now (log .entry)) end serial))) ⌝ }
+) -> HcReply
+    ensures { λ r. ⌜ servedBy r (now (matrix .exit)) (now (log .exit)) ≡ served (outcome (lent logins classes clients) (now (matrix .entry)) (request kind login folder) (logAt (now (log .entry)) end serial)) ⌝ }
 {
-    let reply = monitor::request(
-        logins,
-        classes,
-        clients,
-        matrix,
-        LoginNo(login),
-        FolderNo(folder),
-        kind,
-        log,
-        end,
-        serial,
-    );
-    let answer = reply.answer;
-    told::reply(answer, reply.end, reply.serial)
+    let asked = Request {
+        login: LoginNo(login),
+        folder: FolderNo(folder),
+        kind: kind,
+    };
+    let tail = Tail {
+        end: end,
+        serial: serial,
+    };
+    told::reply(monitor::request(logins, classes, clients, matrix, asked, log, tail))
 }
 
 // The serial after this one.
@@ -126,31 +124,33 @@ pub extern "C" fn hc_serial_compare(first: u16, second: u16) -> u8
 
 // Packs `cells` into `packed`.
 #[no_mangle]
-pub extern "C" fn hc_pack(cells: &[u8], packed: &mut [u8]) -> Placed
-    ensures { λ r. ⌜ record { told = r; left = now (packed .exit) } ≡ written (packs (now (cells .entry)) (now (packed .entry))) ⌝ }
+pub extern "C" fn hc_pack(cells: &[u8], packed: &mut [u8]) -> HcPlaced
+    ensures { λ r. ⌜ record { told = r; left = now (packed .exit) } ≡ copied (packs (now (cells .entry)) (now (packed .entry))) ⌝ }
 {
     told::packing(packing::pack(cells, packed))
 }
 
 // Unpacks `packed` into `cells`.
 #[no_mangle]
-pub extern "C" fn hc_unpack(packed: &[u8], cells: &mut [u8]) -> Placed
-    ensures { λ r. ⌜ record { told = r; left = now (cells .exit) } ≡ written (unpacks (now (packed .entry)) (now (cells .entry))) ⌝ }
+pub extern "C" fn hc_unpack(packed: &[u8], cells: &mut [u8]) -> HcPlaced
+    ensures { λ r. ⌜ record { told = r; left = now (cells .exit) } ≡ copied (unpacks (now (packed .entry)) (now (cells .entry))) ⌝ }
 {
     told::unpacking(packing::unpack(packed, cells))
 }
 
 // A step of the log reader at a place.
 #[no_mangle]
-pub extern "C" fn hc_log_step(log: &[u8], place: usize) -> LogItem
-    ensures { λ r. ⌜ r ≡ itemOf (stepAt (now (log .entry)) place) ⌝ }
+pub extern "C" fn hc_log_step(log: &[u8], place: usize) -> HcLogItem
+    ensures { λ r. ⌜ r ≡ logItem (stepAt (now (log .entry)) place) ⌝ }
 {
-    told::item(audit_log::step(log, place))
+    let advance = log_reader::step_from(log, place);
+    let item = advance.item;
+    told::item(item)
 }
 
 // The whole-log check.
 #[no_mangle]
-pub extern "C" fn hc_log_check(log: &[u8]) -> Placed
+pub extern "C" fn hc_log_check(log: &[u8]) -> HcPlaced
     ensures { λ r. ⌜ r ≡ placedOf (checked (now (log .entry))) ⌝ }
 {
     told::checked(audit_log::check(log))
@@ -158,7 +158,7 @@ pub extern "C" fn hc_log_check(log: &[u8]) -> Placed
 
 // The number at a place: how a caller walks a record's list.
 #[no_mangle]
-pub extern "C" fn hc_number_read(log: &[u8], place: usize) -> Number
+pub extern "C" fn hc_number_read(log: &[u8], place: usize) -> HcNumber
     ensures { λ r. ⌜ r ≡ numberOf (reading 2 3 (now (log .entry)) place) ⌝ }
 {
     told::decoded(varint::read(log, place))

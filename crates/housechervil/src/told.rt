@@ -1,42 +1,43 @@
 // The answers of the crates as records of numbers. Values that an answer does not carry are 0.
-use crate::LogItem;
-use crate::Number;
-use crate::Placed;
-use crate::RegisterAnswer;
-use crate::Reply;
+use crate::HcLogItem;
+use crate::HcNumber;
+use crate::HcPlaced;
+use crate::HcRegisterAnswer;
+use crate::HcReply;
 use audit_log::Checked;
 use audit_log::Entry;
-use audit_log::Fault;
 use audit_log::Item;
-use monitor::Answer;
+use log_fields::Fault;
+use monitor::Reply;
 use packing::Packing;
 use packing::Unpacking;
 use register::Verdict;
 use serial::Order;
 use varint::Decoded;
 ghost use mathlib.Core.Path.{_≡_};
-ghost use Rattle.audit_log.specs.Item.{checkedAnswer, entryAnswer, faultAnswer, itemAnswer};
-ghost use Rattle.monitor.specs.Reply.{replyAnswer};
+ghost use Rattle.audit_log.specs.Item.{checkedAnswer, entryOf, itemOf};
+ghost use Rattle.log_fields.specs.Answers.{faultAnswer};
 ghost use Rattle.packing.specs.Answers.{packing, unpacking};
 ghost use Rattle.register.specs.Verdict.{verdictAnswer};
+ghost use Rattle.response.specs.Response.{responseAnswer};
 ghost use Rattle.serial.specs.Number.{number};
 ghost use Rattle.varint.specs.Reading.{decodedAnswer};
-ghost use Rattle.housechervil.specs.Records.{itemOf, numberOf, placedItem, placedOf, registerRecord, replyOf};
+ghost use Rattle.housechervil.specs.Records.{entryItem, logItem, numberOf, placedItem, placedOf, registerRecord, replyOf};
 
 // ---- the register
 
 // An answer of the register check and the folders that it carries.
-fn folders(number: u16, first: u16, second: u16) -> RegisterAnswer
+fn folders(number: u16, first: u16, second: u16) -> HcRegisterAnswer
     ensures { λ r. ⌜ r ≡ record { number = number; first = first; second = second } ⌝ }
 {
-    RegisterAnswer {
+    HcRegisterAnswer {
         number: number,
         first: first,
         second: second,
     }
 }
 
-pub(crate) fn verdict(v: Verdict) -> RegisterAnswer
+pub(crate) fn verdict(v: Verdict) -> HcRegisterAnswer
     ensures { λ r. ⌜ r ≡ registerRecord (verdictAnswer v) ⌝ }
 {
     match v {
@@ -49,51 +50,19 @@ pub(crate) fn verdict(v: Verdict) -> RegisterAnswer
 
 // ---- the request
 
-// A refusal with the folders that it carries.
-fn refused(number: u16, first: u16, second: u16, end: usize, serial: u16) -> Reply
-    ensures { λ r. ⌜ r ≡ record { number = number; first = first; second = second; count = 0; end = end; serial = serial } ⌝ }
+pub(crate) fn reply(reply: Reply) -> HcReply
+    ensures { λ r. ⌜ r ≡ replyOf (responseAnswer (reply .response)) (reply .tail .end) (reply .tail .serial) ⌝ }
 {
-    Reply {
-        number: number,
-        first: first,
-        second: second,
-        count: 0,
-        end: end,
-        serial: serial,
-    }
-}
-
-fn granted(count: u16, end: usize, serial: u16) -> Reply
-    ensures { λ r. ⌜ r ≡ record { number = 0; first = 0; second = 0; count = count; end = end; serial = serial } ⌝ }
-{
-    Reply {
-        number: 0,
-        first: 0,
-        second: 0,
-        count: count,
-        end: end,
-        serial: serial,
-    }
-}
-
-pub(crate) fn reply(answer: Answer, end: usize, serial: u16) -> Reply
-    ensures { λ r. ⌜ r ≡ replyOf (replyAnswer answer) end serial ⌝ }
-{
-    match answer {
-        Answer::Granted(count) => granted(count, end, serial),
-        Answer::OutOfRange => refused(1, 0, 0, end, serial),
-        Answer::LoneZero(f) => refused(2, f.0, 0, end, serial),
-        Answer::TwoClasses(f, g) => refused(3, f.0, g.0, end, serial),
-        Answer::MatrixLength => refused(4, 0, 0, end, serial),
-        Answer::UnknownLogin => refused(5, 0, 0, end, serial),
-        Answer::UnknownFolder => refused(6, 0, 0, end, serial),
-        Answer::UnknownKind => refused(7, 0, 0, end, serial),
-        Answer::BadCell(f) => refused(8, f.0, 0, end, serial),
-        Answer::BadEnd => refused(9, 0, 0, end, serial),
-        Answer::Rival(f) => refused(20, f.0, 0, end, serial),
-        Answer::Foreign(f) => refused(21, f.0, 0, end, serial),
-        Answer::AtStake(f) => refused(22, f.0, 0, end, serial),
-        Answer::NoRoom => refused(30, 0, 0, end, serial),
+    let response = reply.response;
+    let tail = reply.tail;
+    let n = response::in_numbers(response);
+    HcReply {
+        number: n.number,
+        first: n.first,
+        second: n.second,
+        count: n.count,
+        end: tail.end,
+        serial: tail.serial,
     }
 }
 
@@ -113,16 +82,16 @@ pub(crate) fn order(o: Order) -> u8
 // ---- packed cells and the log
 
 // An answer and the one value that it carries.
-fn placed(number: u16, value: usize) -> Placed
+fn placed(number: u16, value: usize) -> HcPlaced
     ensures { λ r. ⌜ r ≡ record { number = number; value = value } ⌝ }
 {
-    Placed {
+    HcPlaced {
         number: number,
         value: value,
     }
 }
 
-pub(crate) fn packing(p: Packing) -> Placed
+pub(crate) fn packing(p: Packing) -> HcPlaced
     ensures { λ r. ⌜ r ≡ placedOf (packing p) ⌝ }
 {
     match p {
@@ -132,7 +101,7 @@ pub(crate) fn packing(p: Packing) -> Placed
     }
 }
 
-pub(crate) fn unpacking(u: Unpacking) -> Placed
+pub(crate) fn unpacking(u: Unpacking) -> HcPlaced
     ensures { λ r. ⌜ r ≡ placedOf (unpacking u) ⌝ }
 {
     match u {
@@ -143,7 +112,7 @@ pub(crate) fn unpacking(u: Unpacking) -> Placed
 }
 
 // A refusal of the reader and its place.
-fn fault(f: Fault) -> Placed
+fn fault(f: Fault) -> HcPlaced
     ensures { λ r. ⌜ r ≡ placedOf (faultAnswer f) ⌝ }
 {
     match f {
@@ -156,7 +125,7 @@ fn fault(f: Fault) -> Placed
     }
 }
 
-pub(crate) fn checked(c: Checked) -> Placed
+pub(crate) fn checked(c: Checked) -> HcPlaced
     ensures { λ r. ⌜ r ≡ placedOf (checkedAnswer c) ⌝ }
 {
     match c {
@@ -165,10 +134,10 @@ pub(crate) fn checked(c: Checked) -> Placed
     }
 }
 
-fn entry(e: Entry) -> LogItem
-    ensures { λ r. ⌜ r ≡ itemOf (entryAnswer e) ⌝ }
+fn entry(e: Entry) -> HcLogItem
+    ensures { λ r. ⌜ r ≡ entryItem (entryOf e) ⌝ }
 {
-    LogItem {
+    HcLogItem {
         number: 0,
         serial: e.serial,
         login: e.login.0,
@@ -182,10 +151,10 @@ fn entry(e: Entry) -> LogItem
 }
 
 // An item that carries a place alone.
-fn no_record(number: u16, place: usize) -> LogItem
+fn no_record(number: u16, place: usize) -> HcLogItem
     ensures { λ r. ⌜ r ≡ placedItem number place ⌝ }
 {
-    LogItem {
+    HcLogItem {
         number: number,
         serial: 0,
         login: 0,
@@ -198,8 +167,8 @@ fn no_record(number: u16, place: usize) -> LogItem
     }
 }
 
-pub(crate) fn item(i: Item) -> LogItem
-    ensures { λ r. ⌜ r ≡ itemOf (itemAnswer i) ⌝ }
+pub(crate) fn item(i: Item) -> HcLogItem
+    ensures { λ r. ⌜ r ≡ logItem (itemOf i) ⌝ }
 {
     match i {
         Item::Record(e) => entry(e),
@@ -212,17 +181,17 @@ pub(crate) fn item(i: Item) -> LogItem
 }
 
 // A number's answer.
-fn number_at(number: u16, value: u16, place: usize) -> Number
+fn number_at(number: u16, value: u16, place: usize) -> HcNumber
     ensures { λ r. ⌜ r ≡ record { number = number; value = value; place = place } ⌝ }
 {
-    Number {
+    HcNumber {
         number: number,
         value: value,
         place: place,
     }
 }
 
-pub(crate) fn decoded(d: Decoded) -> Number
+pub(crate) fn decoded(d: Decoded) -> HcNumber
     ensures { λ r. ⌜ r ≡ numberOf (decodedAnswer d) ⌝ }
 {
     match d {

@@ -1,6 +1,5 @@
--- `item` meets its contract: a record, the end, or a refusal, whose number is never 0.
+-- `item` meets its contract: a record, the end, or a refusal.
 use borrow.Author.Needs.{needs}
-use Rattle.housechervil.proofs.Refusals.{refused-item}
 use Rattle.housechervil.proofs.told.item.Statement.{statement}
 use Rattle.housechervil.proofs.told.item.Tie as tie
 
@@ -35,7 +34,7 @@ returns-2 c =
 
 returns-3 : tie.Need-returns-3
 returns-3 c =
-    rw (c .no-record2 .ensures, c .before .fault .ensures, c .before .before .before .i3 .given .1) (refused-item (c .before .before .before .i3 .given .0 .0))
+    rw (c .no-record2 .ensures, c .before .fault .ensures, c .before .before .before .i3 .given .1)
 
 pub item-spec : {M : Type 1} → statement M
 item-spec =
