@@ -6,9 +6,9 @@ use lib.ListN.{length, drop}
 use lib.Seq.{slice}
 use Rattle.audit_log.specs.Record.{recordBytes}
 use Rattle.audit_log.specs.Reader.{entry, entryAt, stepAt, placeAfter}
-use Rattle.audit_log.specs.WellFormed.{WellFormed, RecordAt}
+use Rattle.audit_log.specs.WellFormed.{WellFormed, Standing}
 use Rattle.policy.specs.Outcome.{Log, appended}
-use Rattle.log_exact.specs.Exact.{LoggedRequest, left, written, recorded, Lent, walked, Yields, LogExact}
+use Rattle.log_exact.specs.Exact.{LoggedRequest, left, written, recorded, CanBeMade, walked, Yields, LogExact}
 use Rattle.audit_log.proofs.Reader.{list-written, step-writes, step-written, step-yields}
 use Rattle.log_exact.proofs.Appended.{slice-appended, drop-appended, logged-well-formed, logged-room, logged-left}
 use Rattle.log_exact.proofs.Witness.{witness, witness-lent, recorded-witness}
@@ -38,14 +38,14 @@ module _ (w : LoggedRequest) where
   drop-left = rw written-bytes (ap (λ (l : Log). drop (w .log .end) (l .bytes)) appends ∙ drop-appended (w .log) (recordBytes (recorded w)) room)
 
 -- A record that stands at a place is the witness's.
-yielded : (log : List ℕ) (place : ℕ) (r : RecordAt log place) → (w : LoggedRequest) × Lent w × Yields log place w
+yielded : (log : List ℕ) (place : ℕ) (r : Standing log place) → (w : LoggedRequest) × CanBeMade w × Yields log place w
 yielded log place r =
-    let w = witness (r .entry) (r .well-formed) in
-    let same : recorded w ≡ r .entry = recorded-witness (r .entry) (r .well-formed) in
-    let bytes : written w ≡ recordBytes (r .entry) = written-bytes w ∙ ap recordBytes same in
+    let w = witness (r .stored) (r .well-formed) in
+    let same : recorded w ≡ r .stored = recorded-witness (r .stored) (r .well-formed) in
+    let bytes : written w ≡ recordBytes (r .stored) = written-bytes w ∙ ap recordBytes same in
     let stands : drop place log ≡ written w ++ drop (place + length (written w)) log = r .bytes ∙ ap (λ (l : List ℕ). l ++ drop (place + length l) log) (sym bytes) in (
       w,
-      witness-lent (r .entry) (r .well-formed),
+      witness-lent (r .stored) (r .well-formed),
       record {
         fields = step-yields log place r ∙ ap (λ x. entry (entryAt place x)) (sym same);
         list = list-back w log place (drop (place + length (written w)) log) stands;

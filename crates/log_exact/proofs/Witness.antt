@@ -25,7 +25,7 @@ use Rattle.log_fields.specs.Rule.{canAnswer, badCount}
 use Rattle.audit_log.specs.WellFormed.{WellFormed}
 use Rattle.policy.specs.Rules.{rowOf, cell, writes, revokes, rival, foreign, atStake, rivals, foreigners, stakes, lost}
 use Rattle.policy.specs.Outcome.{Request, Log, requestChecks, wallChecks, wallAnswer, decision, outcome, logged, isLogged, recordOf}
-use Rattle.log_exact.specs.Exact.{LoggedRequest, recorded, Lent}
+use Rattle.log_exact.specs.Exact.{LoggedRequest, recorded, CanBeMade}
 use Rattle.audit_log.proofs.Fields.{Answers, answer-cases}
 use Rattle.log_exact.proofs.Rising.{rising-without, those-rising}
 
@@ -374,7 +374,7 @@ module _ (e : Record) where
           is-logged = rw answered told;
         }
 
-    pub witness-lent : Lent witness
+    pub witness-lent : CanBeMade witness
     unfolding witness
     witness-lent =
         record {

@@ -13,7 +13,7 @@ use Rattle.serial.specs.Serial.{following}
 use Rattle.register.specs.Register.{Register}
 use Rattle.audit_log.specs.Record.{Record, recordBytes}
 use Rattle.audit_log.specs.Reader.{inTurn, checkedFrom, checked}
-use Rattle.audit_log.specs.WellFormed.{WellFormed, RecordAt}
+use Rattle.audit_log.specs.WellFormed.{WellFormed, Standing}
 use Rattle.policy.specs.Outcome.{Request, Log, Outcome, decision, isLogged, recordOf, logged, outcome}
 use Rattle.policy.specs.Session.{Session, session}
 use Rattle.log_exact.specs.WriterPasses.{records, emptyLog, WriterPasses}
@@ -44,9 +44,9 @@ checked-chain log [] fuel place seen last serial enough within h c t =
     rw add-zero (checked-end log place seen last fuel place (step-end log place end))
 checked-chain log (e ∷ es) fuel place seen last serial enough within h c t =
     let after = drop-on log place (recordBytes e) (bytesOf es) h in
-    let r : RecordAt log place =
+    let r : Standing log place =
     record {
-      entry = e;
+      stored = e;
       well-formed = c .1;
       bytes = h ∙ ap (λ (l : List ℕ). recordBytes e ++ l) (sym after);
     } in

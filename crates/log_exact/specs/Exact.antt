@@ -35,7 +35,7 @@ abbrev pub recorded : LoggedRequest → Record
 recorded w = recordOf (w .request) (w .log .serial) (left w .answer)
 
 -- A request that can be made: its register's labels have 16 bits, its matrix and its log hold bytes.
-pub record Lent (w : LoggedRequest) : Type 0 where
+pub record CanBeMade (w : LoggedRequest) : Type 0 where
   pub classes : (f : ℕ) → classOf (w .register) f ≤ 65535
   pub clients : (f : ℕ) → clientOf (w .register) f ≤ 65535
   pub matrix : Bytes (w .matrix)
@@ -64,4 +64,4 @@ pub record LogExact : Type 0 where
   -- The place after it is the log's new end.
   pub new-end : (w : LoggedRequest) → placeAfter (w .log .end) (stepAt (left w .log .bytes) (w .log .end)) ≡ left w .log .end
   -- Whatever a step accepts in a list of bytes, some request wrote that can be made.
-  pub accepts : (log : List ℕ) (place : ℕ) (e : Entry) → Bytes log → stepAt log place ≡ entry e → (w : LoggedRequest) × Lent w × Yields log place w
+  pub accepts : (log : List ℕ) (place : ℕ) (e : Entry) → Bytes log → stepAt log place ≡ entry e → (w : LoggedRequest) × CanBeMade w × Yields log place w

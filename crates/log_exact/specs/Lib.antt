@@ -1,2 +1,3 @@
+-- Claims:
 pub mod Exact
 pub mod WriterPasses

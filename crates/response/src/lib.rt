@@ -10,7 +10,7 @@ pub enum Response {
     OutOfRange,
     // 2: exactly one of class and client is 0
     LoneZero(FolderNo),
-    // 3: a client has two classes
+    // 3: a client has two classes; the first folder that differs from an earlier one of its client, and the first such earlier one
     TwoClasses(FolderNo, FolderNo),
     // 4: the matrix's length is not P times F
     MatrixLength,
@@ -26,9 +26,9 @@ pub enum Response {
     BadEnd,
     // 20: a rival exists
     Rival(FolderNo),
-    // 21: a foreign folder exists
+    // 21: kind 3 or 4, and a foreign folder exists
     Foreign(FolderNo),
-    // 22: a folder is at stake
+    // 22: kind 2, and a folder is at stake
     AtStake(FolderNo),
     // 30: the record is longer than the room left
     NoRoom,
