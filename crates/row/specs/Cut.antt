@@ -3,7 +3,7 @@ use Prim.Native.Nat.{ℕ}
 use mathlib.Core.Bool.{Bool, not, _&&_, _||_}
 use mathlib.Core.List.{List}
 use mathlib.Core.Path.{_≡_}
-use lib.ListN.{length, getD, replicate, set}
+use lib.ListN.{length, getD, set}
 use lib.Seq.{sets}
 use lib.Dec.{eqb}
 use Rattle.vocabulary.specs.Those.{those}
@@ -49,6 +49,10 @@ firstOf sort row classes clients o = getD (allOf sort row classes clients o) 0 (
 abbrev pub leftAt : List ℕ → List ℕ → Label → ℕ → ℕ → ℕ → ℕ → ℕ
 leftAt classes clients o folder kind f c = cellLeft c (labelAt classes clients f) o (eqb f folder) kind
 
--- An array of 512 that lists these folders from its start, n of them, and has zeros after the place n.
-abbrev pub Listed : List ℕ → List ℕ → ℕ → Type 0
-Listed l list n = (set list n 0 ≡ sets (replicate 512 0) 0 l) × (n ≡ length l)
+-- Zeros alone.
+abbrev pub Blank : List ℕ → Type 0
+Blank list = (i : ℕ) → getD list i 0 ≡ 0
+
+-- Numbers listed from the start of a blank array, n of them: a 0 put at the place n makes the array just that list.
+abbrev pub Listed : List ℕ → List ℕ → List ℕ → ℕ → Type 0
+Listed blank l list n = (set list n 0 ≡ sets blank 0 l) × (n ≡ length l)

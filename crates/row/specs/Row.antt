@@ -15,11 +15,11 @@ use Rattle.row.specs.declared.Ruling.the-variants.{Unfit, UnknownFolder,
 use Rattle.row.specs.declared.Lost.{Lost}
 
 -- The two lists are of the row's length, and no row has over 512 folders; else refusal 1.
-abbrev pub listsFit : Register → List ℕ → Bool
+unfoldable pub listsFit : Register → List ℕ → Bool
 listsFit r row = eqb (folders r) (length row) && eqb (length (r .clients)) (length row) && leb (length row) 512
 
 -- The lists fit and folder o is in the row.
-abbrev pub fitting : Register → List ℕ → ℕ → Bool
+unfoldable pub fitting : Register → List ℕ → ℕ → Bool
 fitting r row o = listsFit r row && ltb o (length row)
 
 -- The answer on a row: 1, 6, or what the wall says.

@@ -94,14 +94,11 @@ pub fn decide(row: &[u8], classes: &[u16], clients: &[u16], folder: FolderNo, ki
 pub fn any_lost(row: &[u8], classes: &[u16], clients: &[u16], folder: FolderNo, kind: u16) -> bool
     ensures { λ r. ⌜ r ≡ some (lostOn (lentFolders classes clients) (now (row .entry)) (folder .0) kind) ⌝ }
 {
-    if !fits(row, classes, clients, folder) {
-        return false;
+    if fits(row, classes, clients, folder) & rules::revokes(kind) {
+        let o = walks::label_of(classes, clients, folder);
+        return walks::any(Sort::AtStake, row, classes, clients, o);
     }
-    if !rules::revokes(kind) {
-        return false;
-    }
-    let o = walks::label_of(classes, clients, folder);
-    walks::any(Sort::AtStake, row, classes, clients, o)
+    false
 }
 
 // The folders that lose their write right on a grant.
@@ -109,24 +106,18 @@ pub fn list_lost(row: &[u8], classes: &[u16], clients: &[u16], folder: FolderNo,
     ensures { λ r. ⌜ r ≡ listOf (lostOn (lentFolders classes clients) (now (row .entry)) (folder .0) kind) ⌝ }
 {
     let mut list = [0u16; 512];
-    if !fits(row, classes, clients, folder) {
+    if fits(row, classes, clients, folder) & rules::revokes(kind) {
+        let o = walks::label_of(classes, clients, folder);
+        let count = walks::list_stakes(row, classes, clients, o, &mut list);
+        walks::clear_at(&mut list, count);
         return Lost {
             folders: list,
-            count: 0,
+            count: count,
         };
     }
-    if !rules::revokes(kind) {
-        return Lost {
-            folders: list,
-            count: 0,
-        };
-    }
-    let o = walks::label_of(classes, clients, folder);
-    let count = walks::list_stakes(row, classes, clients, o, &mut list);
-    walks::clear_at(&mut list, count);
     Lost {
         folders: list,
-        count: count,
+        count: 0,
     }
 }
 

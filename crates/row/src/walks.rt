@@ -8,10 +8,10 @@ use register::Label;
 ghost use Prim.Native.Nat.{_≤_, _<_};
 ghost use mathlib.Core.Path.{_≡_};
 ghost use mathlib.Core.Bool.{cond};
-ghost use lib.ListN.{length, replicate, set};
+ghost use lib.ListN.{length, set};
 ghost use Rattle.vocabulary.specs.Those.{some};
 ghost use Rattle.vocabulary.specs.Each.{each};
-ghost use Rattle.row.specs.Cut.{Alongside, Listed, labelAt, allOf, firstOf, leftAt};
+ghost use Rattle.row.specs.Cut.{Alongside, Blank, Listed, labelAt, allOf, firstOf, leftAt};
 
 // A folder's number, from its place.
 pub(crate) fn folder_no(place: usize) -> FolderNo
@@ -94,8 +94,8 @@ pub(crate) fn list_stakes(
     o: Label,
     list: &mut [u16; 512],
 ) -> usize
-    requires { ⌜ Alongside (now row) (now classes) (now clients) × (length (now row) ≤ 512) × (now list ≡ replicate 512 0) ⌝ }
-    ensures { λ r. ⌜ Listed (allOf Sort.AtStake (now (row .entry)) (now (classes .entry)) (now (clients .entry)) o) (now (list .exit)) r ⌝ }
+    requires { ⌜ Alongside (now row) (now classes) (now clients) × (length (now row) ≤ 512) × Blank (now list) ⌝ }
+    ensures { λ r. ⌜ Listed (now (list .entry)) (allOf Sort.AtStake (now (row .entry)) (now (classes .entry)) (now (clients .entry)) o) (now (list .exit)) r ⌝ }
 {
     let mut n: usize = 0;
     let mut f = 0;
@@ -108,11 +108,11 @@ pub(crate) fn list_stakes(
     n
 }
 
-// Puts 0 at a place, if the array has it.
-pub(crate) fn clear_at(list: &mut [u16; 512], n: usize)
+// Puts 0 at a place, if the list has it.
+pub(crate) fn clear_at(list: &mut [u16], n: usize)
     ensures { λ r. ⌜ now (list .exit) ≡ set (now (list .entry)) n 0 ⌝ }
 {
-    if 512 <= n {
+    if list.len() <= n {
         return;
     }
     list[n] = 0;
