@@ -2,6 +2,8 @@
 use crate::row;
 use crate::rules;
 use crate::rules::Sort;
+use ids::ClassNo;
+use ids::ClientNo;
 use ids::FolderNo;
 use register::Label;
 ghost use Prim.Native.Nat.{_≤_, _<_};
@@ -33,7 +35,7 @@ pub(crate) fn label_of(classes: &[u16], clients: &[u16], f: usize) -> Label
     requires { ⌜ (f < length (now classes)) × (f < length (now clients)) ⌝ }
     ensures { λ r. ⌜ r ≡ labelOf (getD (now (classes .entry)) f 0) (getD (now (clients .entry)) f 0) ⌝ }
 {
-    register::labelled(classes[f], clients[f])
+    register::labelled(ClassNo(classes[f]), ClientNo(clients[f]))
 }
 
 // Rows 20 to 22 of the table, in their order.

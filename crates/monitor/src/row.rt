@@ -1,6 +1,8 @@
 // The walks over a login's row.
 use crate::rules;
 use crate::rules::Sort;
+use ids::ClassNo;
+use ids::ClientNo;
 use register::Label;
 ghost use Prim.Native.Nat.{_≤_};
 ghost use mathlib.Core.Path.{_≡_};
@@ -19,7 +21,13 @@ fn any(sort: Sort, row: &[u8], classes: &[u16], clients: &[u16], o: Label) -> bo
     let mut seen = false;
     let mut f = 0;
     while f < row.len() {
-        seen = seen | rules::fits(sort, row[f], register::labelled(classes[f], clients[f]), o);
+        seen = seen
+            | rules::fits(
+                sort,
+                row[f],
+                register::labelled(ClassNo(classes[f]), ClientNo(clients[f])),
+                o,
+            );
         f += 1;
     }
     seen
@@ -32,7 +40,12 @@ fn first(sort: Sort, row: &[u8], classes: &[u16], clients: &[u16], o: Label) -> 
 {
     let mut f = 0;
     while f < row.len() {
-        if rules::fits(sort, row[f], register::labelled(classes[f], clients[f]), o) {
+        if rules::fits(
+            sort,
+            row[f],
+            register::labelled(ClassNo(classes[f]), ClientNo(clients[f])),
+            o,
+        ) {
             return f;
         }
         f += 1;
@@ -72,7 +85,11 @@ pub(crate) fn list_stakes(
     let mut n: usize = 0;
     let mut f = 0;
     while f < row.len() {
-        let stake = rules::at_stake(row[f], register::labelled(classes[f], clients[f]), o);
+        let stake = rules::at_stake(
+            row[f],
+            register::labelled(ClassNo(classes[f]), ClientNo(clients[f])),
+            o,
+        );
         list[n] = f as u16;
         n += one_if(stake);
         f += 1;
@@ -96,7 +113,7 @@ pub(crate) fn grant(
     while f < row.len() {
         row[f] = rules::cell_left(
             row[f],
-            register::labelled(classes[f], clients[f]),
+            register::labelled(ClassNo(classes[f]), ClientNo(clients[f])),
             o,
             f == folder,
             kind,

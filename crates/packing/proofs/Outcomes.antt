@@ -1,6 +1,5 @@
 -- Laws of the outcomes: what each way through packing and unpacking answers and leaves.
 use Prim.Native.Nat.{ℕ, _≤_, _<_}
-use mathlib.Core.Bool.{true}
 use mathlib.Core.List.{List, [], _∷_}
 use mathlib.Core.Path.{_≡_}
 use lib.ListN.{length, getD, List·getD-eq-default}
@@ -8,9 +7,10 @@ use native.Mathlib.Decide.{decLt}
 use native.Mathlib.Omega.{arith}
 use borrow.Author.Tests.{eq-eqb, ne-eqb, ltb-false, le-ltb}
 use Rattle.vocabulary.specs.Answer.{answer, judge}
-use Rattle.vocabulary.specs.Those.{some, smallest}
 use Rattle.packing.specs.Packed.{AllCells, quarter, packed, unpacked, unused}
-use Rattle.packing.specs.CopyOutcome.{copyOutcome, above, aboves, packs, unpacks}
+use Rattle.packing.specs.CopyOutcome.{copyOutcome, packs, unpacks}
+use Rattle.cells.specs.Above.{above, aboves, firstAbove}
+use Rattle.cells.proofs.Above.{above-found}
 use Rattle.vocabulary.proofs.Those.{those-empty, those-never}
 
 -- where no cell above 3 is found, all are cells
@@ -33,9 +33,9 @@ module _ (cells buffer : List ℕ) where
   pack-unequal g = simp (ne-eqb _ _ g)
 
   module _ (fits : length buffer ≡ quarter (length cells)) where
-    pub pack-above : (i : ℕ) → some (aboves cells) ≡ true → i ≡ smallest (aboves cells) → copyOutcome (answer 60 (i ∷ [])) buffer ≡ packs cells buffer
+    pub pack-above : (i : ℕ) → i ≡ firstAbove cells → i < length cells → copyOutcome (answer 60 (i ∷ [])) buffer ≡ packs cells buffer
     unfolding judge packs
-    pack-above i any is = simp (eq-eqb _ _ fits, any, is)
+    pack-above i is h = let found = above-found cells (rw is at h) in simp (eq-eqb _ _ fits, found .0, found .1, is)
 
     pub pack-packed : (now : List ℕ) → aboves cells ≡ [] → now ≡ packed cells → copyOutcome (answer 0 []) now ≡ packs cells buffer
     unfolding judge packs

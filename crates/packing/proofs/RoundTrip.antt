@@ -13,7 +13,8 @@ use borrow.Author.Tests.{eqb-true, not-false}
 use Rattle.vocabulary.specs.Answer.{answer, check, judge}
 use Rattle.vocabulary.proofs.Those.{some-none}
 use Rattle.packing.specs.Packed.{AllCells, quarter, byteOf, byteAt, packed, from, cellAt, unpacked, unused}
-use Rattle.packing.specs.CopyOutcome.{aboves, packs, unpacks}
+use Rattle.packing.specs.CopyOutcome.{packs, unpacks}
+use Rattle.cells.specs.Above.{aboves}
 use Rattle.packing.specs.RoundTrip.{UnpackOfPack, PackOfUnpack}
 use Rattle.packing.proofs.Tabulates.{length-tabulate, getD-tabulate}
 use Rattle.packing.proofs.Cells.{cell-at}

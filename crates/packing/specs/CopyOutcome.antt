@@ -2,10 +2,11 @@
 use Prim.Native.Nat.{ℕ}
 use mathlib.Core.Bool.{Bool, cond, not}
 use mathlib.Core.List.{List, [], _∷_}
-use lib.Dec.{eqb, ltb}
-use lib.ListN.{length, getD}
+use lib.Dec.{eqb}
+use lib.ListN.{length}
 use Rattle.vocabulary.specs.Answer.{Answer, answer, check, judge}
-use Rattle.vocabulary.specs.Those.{those, some, smallest}
+use Rattle.vocabulary.specs.Those.{some, smallest}
+use Rattle.cells.specs.Above.{aboves}
 use Rattle.packing.specs.Packed.{quarter, packed, unpacked, unused}
 
 -- The answer, and the lent buffer afterwards.
@@ -27,13 +28,6 @@ leaves a result buffer = copyOutcome a (cond (eqb (a .number) 0) result buffer)
 -- '61 for lengths that don't match.'
 abbrev pub unequal : ℕ → ℕ → Bool
 unequal bytes cells = not (eqb bytes (quarter cells))
-
--- Whether the cell at a place is above 3, and the places of all such cells.
-abbrev pub above : List ℕ → ℕ → Bool
-above cells i = ltb 3 (getD cells i 0)
-
-unfoldable pub aboves : List ℕ → List ℕ
-aboves cells = those (above cells) (length cells)
 
 -- Packing: '61 .., then 60 for the first cell above 3, with its place'.
 abbrev pub packAnswer : List ℕ → List ℕ → Answer

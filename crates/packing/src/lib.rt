@@ -3,9 +3,8 @@ ghost use mathlib.Core.Path.{_≡_};
 ghost use Prim.Native.Nat.{_+_, _*_, _≤_, _<_};
 ghost use lib.ListN.{length, getD};
 ghost use Rattle.packing.specs.Packed.{AllCells, quarter, byteOf, byteAt, packed, from, cellAt, unpacked, unused};
-ghost use Rattle.vocabulary.specs.Those.{some, smallest};
 ghost use Rattle.packing.specs.Tabulate.{filled};
-ghost use Rattle.packing.specs.CopyOutcome.{copyOutcome, aboves, packs, unpacks};
+ghost use Rattle.packing.specs.CopyOutcome.{copyOutcome, packs, unpacks};
 ghost use Rattle.packing.specs.Answers.{packing, unpacking};
 
 // The answers of packing: 0; 60 with the place of the first cell above 3; 61, the lengths don't match.
@@ -27,35 +26,6 @@ fn bytes_for(cells: usize) -> usize
     ensures { λ r. ⌜ r ≡ quarter cells ⌝ }
 {
     cells / 4 + (cells % 4 + 3) / 4
-}
-
-// Whether a cell is above 3. It goes through all cells: with no early end, many are judged by one instruction.
-// Invariant: `any` says whether one before i is.
-fn any_above(cells: &[u8]) -> bool
-    ensures { λ r. ⌜ r ≡ some (aboves (now (cells .entry))) ⌝ }
-{
-    let mut any = false;
-    let mut i = 0;
-    while i < cells.len() {
-        any = any | (cells[i] > 3);
-        i += 1;
-    }
-    any
-}
-
-// The place of the first cell above 3; 0 where there is none.
-// Invariant: no cell before i is above 3.
-fn first_above(cells: &[u8]) -> usize
-    ensures { λ r. ⌜ r ≡ smallest (aboves (now (cells .entry))) ⌝ }
-{
-    let mut i = 0;
-    while i < cells.len() {
-        if cells[i] > 3 {
-            return i;
-        }
-        i += 1;
-    }
-    0
 }
 
 // Four cells in a byte, the first in the lowest two bits. The four make a word, which a compiler can read at once where they lie in a row; one
@@ -126,8 +96,9 @@ pub fn pack(cells: &[u8], packed: &mut [u8]) -> Packing
     if packed.len() != bytes_for(cells.len()) {
         return Packing::Unequal;
     }
-    if any_above(cells) {
-        return Packing::CellAbove(first_above(cells));
+    let above = cells::first_above(cells);
+    if above < cells.len() {
+        return Packing::CellAbove(above);
     }
     write_bytes(cells, packed);
     Packing::Packed

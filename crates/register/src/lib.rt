@@ -37,13 +37,13 @@ pub struct Label {
     pub client: ClientNo,
 }
 
-// The label that a folder's numbers in the two lists make.
-pub fn labelled(class: u16, client: u16) -> Label
-    ensures { λ r. ⌜ r ≡ labelOf class client ⌝ }
+// The label of a folder of this class and client.
+pub fn labelled(class: ClassNo, client: ClientNo) -> Label
+    ensures { λ r. ⌜ r ≡ labelOf (class .0) (client .0) ⌝ }
 {
     Label {
-        class: ClassNo(class),
-        client: ClientNo(client),
+        class: class,
+        client: client,
     }
 }
 

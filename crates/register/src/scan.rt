@@ -2,6 +2,7 @@
 use crate::Label;
 use crate::labelled;
 use ids::ClassNo;
+use ids::ClientNo;
 use ids::same_class;
 use ids::same_client;
 ghost use Prim.Native.Nat.{_<_, _≤_};
@@ -37,7 +38,7 @@ fn label_at(classes: &[u16], clients: &[u16], f: usize) -> Label
     requires { ⌜ (f < length (now classes)) × (f < length (now clients)) ⌝ }
     ensures { λ r. ⌜ r ≡ labelOf (getD (now (classes .entry)) f 0) (getD (now (clients .entry)) f 0) ⌝ }
 {
-    labelled(classes[f], clients[f])
+    labelled(ClassNo(classes[f]), ClientNo(clients[f]))
 }
 
 // Whether any folder has exactly one 0. Without a way out of the loop, so that it runs on many folders at once.

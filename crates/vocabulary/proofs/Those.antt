@@ -144,6 +144,10 @@ first-smallest p n d = at (those p n)
     at [] e = absurd (false≢true e)
     at (x ∷ xs) e = refl
 
+-- The first number of a search that found nothing is what stands for 'none'.
+pub first-absent : (p : ℕ → Bool) (n d : ℕ) → some (those p n) ≡ false → d ≡ getD (those p n) 0 d
+first-absent p n d e = rw (some-none (those p n) e)
+
 -- A walk that lists as it goes: the next number is stored past the list, and counts if it passes the test.
 pub those-list : (p : ℕ → Bool) (list : List ℕ) (n i : ℕ) → n < length list → take n list ≡ those p i →
     take (n + cond (p i) 1 0) (set list n i) ≡ those p (i + 1)

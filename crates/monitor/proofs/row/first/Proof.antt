@@ -26,17 +26,17 @@ loop-holds c =
 shared-slice-read-fits : tie.Need-shared-slice-read-fits Inv-loop μ-loop
 shared-slice-read-fits c = search needs
 
-mul-labelled : tie.Need-mul-labelled Inv-loop μ-loop
-mul-labelled c = search needs
+mul-t7 : tie.Need-mul-t7 Inv-loop μ-loop
+mul-t7 c = search needs
 
-shared-slice-read-labelled : tie.Need-shared-slice-read-labelled Inv-loop μ-loop
-shared-slice-read-labelled c = search needs
+shared-slice-read-t14 : tie.Need-shared-slice-read-t14 Inv-loop μ-loop
+shared-slice-read-t14 c = search needs
 
-mul-labelled-2 : tie.Need-mul-labelled-2 Inv-loop μ-loop
-mul-labelled-2 c = search needs
+mul-t16 : tie.Need-mul-t16 Inv-loop μ-loop
+mul-t16 c = search needs
 
-shared-slice-read-labelled-2 : tie.Need-shared-slice-read-labelled-2 Inv-loop μ-loop
-shared-slice-read-labelled-2 c = search needs
+shared-slice-read-t18 : tie.Need-shared-slice-read-t18 Inv-loop μ-loop
+shared-slice-read-t18 c = search needs
 
 labelled-requires : tie.Need-labelled-requires Inv-loop μ-loop
 labelled-requires c κs = search needs
@@ -70,10 +70,10 @@ first-spec =
     μ-loop
     loop-holds
     shared-slice-read-fits
-    mul-labelled
-    shared-slice-read-labelled
-    mul-labelled-2
-    shared-slice-read-labelled-2
+    mul-t7
+    shared-slice-read-t14
+    mul-t16
+    shared-slice-read-t18
     labelled-requires
     fits-requires
     returns

@@ -25,17 +25,17 @@ slice-read-cell-left : tie.Need-slice-read-cell-left Inv-loop μ-loop
 slice-read-cell-left c =
     search needs
 
-mul-labelled : tie.Need-mul-labelled Inv-loop μ-loop
-mul-labelled c = search needs
+mul-t8 : tie.Need-mul-t8 Inv-loop μ-loop
+mul-t8 c = search needs
 
-shared-slice-read-labelled : tie.Need-shared-slice-read-labelled Inv-loop μ-loop
-shared-slice-read-labelled c = search needs
+shared-slice-read-t15 : tie.Need-shared-slice-read-t15 Inv-loop μ-loop
+shared-slice-read-t15 c = search needs
 
-mul-labelled-2 : tie.Need-mul-labelled-2 Inv-loop μ-loop
-mul-labelled-2 c = search needs
+mul-t17 : tie.Need-mul-t17 Inv-loop μ-loop
+mul-t17 c = search needs
 
-shared-slice-read-labelled-2 : tie.Need-shared-slice-read-labelled-2 Inv-loop μ-loop
-shared-slice-read-labelled-2 c = search needs
+shared-slice-read-t19 : tie.Need-shared-slice-read-t19 Inv-loop μ-loop
+shared-slice-read-t19 c = search needs
 
 labelled-requires : tie.Need-labelled-requires Inv-loop μ-loop
 labelled-requires c κs = search needs
@@ -80,10 +80,10 @@ grant-spec =
     μ-loop
     loop-holds
     slice-read-cell-left
-    mul-labelled
-    shared-slice-read-labelled
-    mul-labelled-2
-    shared-slice-read-labelled-2
+    mul-t8
+    shared-slice-read-t15
+    mul-t17
+    shared-slice-read-t19
     labelled-requires
     cell-left-requires
     slice-write-row

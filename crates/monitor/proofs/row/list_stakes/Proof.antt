@@ -28,17 +28,17 @@ loop-holds c =
 shared-slice-read-at-stake : tie.Need-shared-slice-read-at-stake Inv-loop μ-loop
 shared-slice-read-at-stake c = search needs
 
-mul-labelled : tie.Need-mul-labelled Inv-loop μ-loop
-mul-labelled c = search needs
+mul-list : tie.Need-mul-list Inv-loop μ-loop
+mul-list c = search needs
 
-shared-slice-read-labelled : tie.Need-shared-slice-read-labelled Inv-loop μ-loop
-shared-slice-read-labelled c = search needs
+shared-slice-read-list : tie.Need-shared-slice-read-list Inv-loop μ-loop
+shared-slice-read-list c = search needs
 
-mul-labelled-2 : tie.Need-mul-labelled-2 Inv-loop μ-loop
-mul-labelled-2 c = search needs
+mul-t17 : tie.Need-mul-t17 Inv-loop μ-loop
+mul-t17 c = search needs
 
-shared-slice-read-labelled-2 : tie.Need-shared-slice-read-labelled-2 Inv-loop μ-loop
-shared-slice-read-labelled-2 c = search needs
+shared-slice-read-t19 : tie.Need-shared-slice-read-t19 Inv-loop μ-loop
+shared-slice-read-t19 c = search needs
 
 labelled-requires : tie.Need-labelled-requires Inv-loop μ-loop
 labelled-requires c κs = search needs
@@ -49,8 +49,8 @@ at-stake-requires c κs = search needs
 cast-list : tie.Need-cast-list Inv-loop μ-loop
 cast-list c = search needs
 
-mul-list : tie.Need-mul-list Inv-loop μ-loop
-mul-list c = search needs
+mul-list-2 : tie.Need-mul-list-2 Inv-loop μ-loop
+mul-list-2 c = search needs
 
 slice-write-list : tie.Need-slice-write-list Inv-loop μ-loop
 slice-write-list c = search needs
@@ -97,14 +97,14 @@ list-stakes-spec =
     μ-loop
     loop-holds
     shared-slice-read-at-stake
-    mul-labelled
-    shared-slice-read-labelled
-    mul-labelled-2
-    shared-slice-read-labelled-2
+    mul-list
+    shared-slice-read-list
+    mul-t17
+    shared-slice-read-t19
     labelled-requires
     at-stake-requires
     cast-list
-    mul-list
+    mul-list-2
     slice-write-list
     one-if-requires
     add-n

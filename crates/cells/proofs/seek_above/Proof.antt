@@ -1,16 +1,15 @@
--- `first_above` meets its contract. The invariant: the search found nothing below i.
-use mathlib.Core.Path.{ap, sym, _∙_}
+-- `seek_above` meets its contract. The invariant: the search found nothing below i.
 use Prim.Native.Nat.{_≤_, _-_}
-use mathlib.Core.Path.{_≡_, refl}
+use mathlib.Core.Path.{_≡_, refl, sym}
 use lib.ListN.{length}
-use Rattle.packing.specs.CopyOutcome.{above, aboves}
-use Rattle.vocabulary.specs.Those.{those, smallest}
+use Rattle.cells.specs.Above.{above, aboves}
+use Rattle.vocabulary.specs.Those.{those}
 use mathlib.Core.List.{[]}
 use borrow.Author.Tests.{lt-ltb, le-ltb}
-use Rattle.vocabulary.proofs.Those.{those-none, smallest-found, those-end}
+use Rattle.vocabulary.proofs.Those.{those-none, first-found, first-end}
 use borrow.Author.Needs.{needs}
-use Rattle.packing.proofs.first_above.Statement.{statement}
-use Rattle.packing.proofs.first_above.Tie as tie
+use Rattle.cells.proofs.seek_above.Statement.{statement}
+use Rattle.cells.proofs.seek_above.Tie as tie
 
 abbrev Inv-loop : tie.InvT-loop
 Inv-loop cells i₀ i = (i ≤ length cells) × (those (above cells) i ≡ [])
@@ -29,7 +28,7 @@ shared-slice-read-if1 c = search needs
 returns : tie.Need-returns Inv-loop μ-loop
 unfolding aboves
 returns c =
-    smallest-found _ _ _ (c .before .before .before .loop .inv .1) (lt-ltb _ _ (c .if1 .taken)) (c .before .before .loop-test .taken)
+    sym (first-found _ _ _ _ (c .before .before .before .loop .inv .1) (lt-ltb _ _ (c .if1 .taken)) (c .before .before .loop-test .taken))
 
 add-i : tie.Need-add-i Inv-loop μ-loop
 add-i c = search needs
@@ -44,10 +43,10 @@ loop-again c =
 returns-2 : tie.Need-returns-2 Inv-loop μ-loop
 unfolding aboves
 returns-2 c =
-    ap smallest (sym (c .before .loop .inv .1) ∙ those-end _ _ _ (c .loop-test .left) (c .before .loop .inv .0))
+    sym (first-end _ _ _ (c .before .loop .inv .1) (c .before .loop .inv .0) (c .loop-test .left))
 
-pub first-above-spec : {M : Type 1} → statement M
-first-above-spec =
+pub seek-above-spec : {M : Type 1} → statement M
+seek-above-spec =
     tie.close
     (tie.spec
     Inv-loop

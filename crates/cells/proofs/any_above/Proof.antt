@@ -1,14 +1,13 @@
 -- `any_above` meets its contract. The invariant: `any` says whether the search found something below i.
 use Rattle.vocabulary.proofs.Those.{some-those-suc, those-end}
-use mathlib.Core.Path.{ap, sym, _∙_}
 use Prim.Native.Nat.{_≤_, _-_}
-use mathlib.Core.Path.{_≡_, refl}
+use mathlib.Core.Path.{_≡_, refl, ap, sym, _∙_}
 use lib.ListN.{length}
-use Rattle.packing.specs.CopyOutcome.{above, aboves}
+use Rattle.cells.specs.Above.{above, aboves}
 use Rattle.vocabulary.specs.Those.{those, some}
 use borrow.Author.Needs.{needs}
-use Rattle.packing.proofs.any_above.Statement.{statement}
-use Rattle.packing.proofs.any_above.Tie as tie
+use Rattle.cells.proofs.any_above.Statement.{statement}
+use Rattle.cells.proofs.any_above.Tie as tie
 
 abbrev Inv-loop : tie.InvT-loop
 Inv-loop cells any₀ i₀ any i = (i ≤ length cells) × (any ≡ some (those (above cells) i))

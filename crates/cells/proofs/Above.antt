@@ -1,0 +1,19 @@
+-- What the first cell above 3 says of all of them.
+use Prim.Native.Nat.{ℕ, _≤_, _<_}
+use mathlib.Core.Bool.{true, false}
+use mathlib.Core.List.{List, []}
+use mathlib.Core.Path.{_≡_}
+use lib.ListN.{length}
+use Rattle.vocabulary.specs.Those.{some, smallest}
+use Rattle.vocabulary.proofs.Those.{first-some, first-none, some-none}
+use Rattle.cells.specs.Above.{above, aboves, firstAbove}
+
+-- Below the length, it is the smallest place of one.
+pub above-found : (cells : List ℕ) → firstAbove cells < length cells → (some (aboves cells) ≡ true) × (smallest (aboves cells) ≡ firstAbove cells)
+unfolding aboves
+above-found cells h = first-some (above cells) (length cells) (length cells) h
+
+-- At the length, there is none.
+pub above-none : (cells : List ℕ) → length cells ≤ firstAbove cells → aboves cells ≡ []
+unfolding aboves
+above-none cells h = some-none _ (first-none (above cells) (length cells) h)

@@ -1,0 +1,115 @@
+-- The rules by the cut of the code: the wall's answer, case by case, by the first find of each search (the row's length stands for 'none');
+-- the write rights lost and the row left, by the walks.
+use Prim.Native.Nat.{ℕ, _≤_, _<_}
+use mathlib.Core.Path.{_≡_, refl, sym}
+use mathlib.Core.Logic.{_⊎_, inl, inr, ⊎-elim}
+use mathlib.Core.Bool.{Bool, true, false, _&&_}
+use mathlib.Core.List.{List, [], _∷_}
+use lib.ListN.{length}
+use lib.Dec.{eqb}
+use borrow.Author.Tests.{eqb-true, eq-eqb, ne-eqb, le-leb, lt-leb}
+use Rattle.vocabulary.specs.Answer.{Answer, answer, judge}
+use Rattle.vocabulary.specs.Those.{some, smallest}
+use Rattle.vocabulary.specs.Each.{each}
+use Rattle.vocabulary.proofs.Those.{first-some, first-none, those-agree, those-never}
+use Rattle.vocabulary.proofs.Each.{each-agree}
+use Rattle.vocabulary.proofs.Bools.{either, both, true-or-false}
+use Rattle.register.specs.declared.Label.{Label}
+use Rattle.register.specs.Register.{Register, folders}
+use Rattle.policy.specs.Rules.{writes, revokes, rivals, foreigners, stakes, lost, cellAfter, rowAfter}
+use Rattle.policy.specs.Outcome.{wallChecks, wallAnswer}
+use Rattle.row.specs.Row.{listsFit, fitting, rowAnswer, ruled, lostOn, rowGranted}
+use Rattle.row.specs.Cut.{labelAt, allOf, firstOf, leftAt}
+use Rattle.row.specs.declared.rules.Sort.{Sort}
+use Rattle.row.specs.declared.rules.Sort.the-variants.{Rival, Foreign, AtStake}
+use Rattle.row.proofs.Fitting.{fits-are, lostOn-fits, rowGranted-fits}
+
+-- A kind that enters a write right is not the careful read.
+writes-other : (kind : ℕ) → writes kind ≡ true → eqb kind 2 ≡ false
+writes-other kind e =
+    ⊎-elim (λ a. rw (eqb-true kind 3 a)) (λ a. rw (eqb-true kind 4 a)) (either (eqb kind 3) (eqb kind 4) e)
+
+module _ (r : Register) (row : List ℕ) (same : folders r ≡ length row) (o kind : ℕ) (l : Label) (asked : l ≡ labelAt (r .classes) (r .clients) o) where
+  -- What a search for a sort found.
+  abbrev Finds : Sort → ℕ → Type 0
+  Finds sort n = n ≡ firstOf sort row (r .classes) (r .clients) l
+
+  found : (sort : Sort) {n : ℕ} → Finds sort n → n < length row →
+      (some (allOf sort row (r .classes) (r .clients) (labelAt (r .classes) (r .clients) o)) ≡ true)
+      × (smallest (allOf sort row (r .classes) (r .clients) (labelAt (r .classes) (r .clients) o)) ≡ n)
+  found sort {n} is h = let e = rw asked at is in let p = first-some _ _ _ (rw e at h) in (p .0, rw e (p .1))
+
+  none : (sort : Sort) {n : ℕ} → Finds sort n → length row ≤ n →
+      some (allOf sort row (r .classes) (r .clients) (labelAt (r .classes) (r .clients) o)) ≡ false
+  none sort {n} is h = let e = rw asked at is in first-none _ _ (rw e at h)
+
+  pub says-rival : {n : ℕ} → Finds Rival n → n < length row → answer 20 (n ∷ []) ≡ ruled (wallAnswer r row o kind)
+  unfolding wallAnswer wallChecks judge rivals
+  says-rival is h = let p = found Rival is h in rw (same, p .0, p .1)
+
+  module _ {n : ℕ} (passed : Finds Rival n) (past : length row ≤ n) where
+    pub says-foreign : writes kind ≡ true → {m : ℕ} → Finds Foreign m → m < length row → answer 21 (m ∷ []) ≡ ruled (wallAnswer r row o kind)
+    unfolding wallAnswer wallChecks judge rivals foreigners
+    says-foreign w is h = let p = found Foreign is h in rw (same, none Rival passed past, w, p .0, p .1)
+
+    pub grants-write : writes kind ≡ true → {m : ℕ} → Finds Foreign m → length row ≤ m → answer 0 [] ≡ ruled (wallAnswer r row o kind)
+    unfolding wallAnswer wallChecks judge rivals foreigners
+    grants-write w is h = rw (same, none Rival passed past, w, none Foreign is h, writes-other kind w)
+
+    pub says-stake : writes kind ≡ false → kind ≡ 2 → {m : ℕ} → Finds AtStake m → m < length row → answer 22 (m ∷ []) ≡ ruled (wallAnswer r row o kind)
+    unfolding wallAnswer wallChecks judge rivals stakes
+    says-stake w e is h = let p = found AtStake is h in rw (same, none Rival passed past, w, eq-eqb kind 2 e, p .0, p .1)
+
+    pub grants-careful : writes kind ≡ false → kind ≡ 2 → {m : ℕ} → Finds AtStake m → length row ≤ m → answer 0 [] ≡ ruled (wallAnswer r row o kind)
+    unfolding wallAnswer wallChecks judge rivals stakes
+    grants-careful w e is h = rw (same, none Rival passed past, w, eq-eqb kind 2 e, none AtStake is h)
+
+    pub grants-read : writes kind ≡ false → (kind ≡ 2 → ⊥) → answer 0 [] ≡ ruled (wallAnswer r row o kind)
+    unfolding wallAnswer wallChecks judge rivals
+    grants-read w e = rw (same, none Rival passed past, w, ne-eqb kind 2 e)
+
+-- Rows 1 and 6 of the table, and what follows them.
+module _ (r : Register) (row : List ℕ) (o kind : ℕ) where
+  pub says-unfit : listsFit r row ≡ false → answer 1 [] ≡ ruled (rowAnswer r row o kind)
+  unfolding rowAnswer judge
+  says-unfit e = rw e
+
+  pub says-unknown : listsFit r row ≡ true → length row ≤ o → answer 6 [] ≡ ruled (rowAnswer r row o kind)
+  unfolding rowAnswer judge
+  says-unknown e h = rw (e, le-leb (length row) o h)
+
+  -- Past them, the wall speaks.
+  pub says-wall : listsFit r row ≡ true → o < length row → {a : Answer} → a ≡ ruled (wallAnswer r row o kind) → a ≡ ruled (rowAnswer r row o kind)
+  unfolding rowAnswer judge
+  says-wall e h is = rw (e, lt-leb (length row) o h) is
+
+-- The first of two tests, that lists and folder fit.
+pub fits-first : (r : Register) (row : List ℕ) (o : ℕ) {a : Bool} (b : Bool) → a ≡ fitting r row o → (a && b) ≡ true → fitting r row o ≡ true
+fits-first r row o {a} b fit e = both (fitting r row o) b (rw fit at e) .0
+
+-- Write rights are lost where lists and folder fit and the kind revokes, as two tests say.
+module _ (r : Register) (row : List ℕ) (o kind : ℕ) {a b : Bool} (fit : a ≡ fitting r row o) (revoking : b ≡ revokes kind) where
+  pub lost-stakes : (a && b) ≡ true → (l : Label) → l ≡ labelAt (r .classes) (r .clients) o → lostOn r row o kind ≡ allOf AtStake row (r .classes) (r .clients) l
+  unfolding lost
+  lost-stakes e l asked =
+      let p = both (fitting r row o) (revokes kind) (rw (fit, revoking) at e) in
+      let same = fits-are r row o (p .0) .0 .0 in
+      rw (lostOn-fits r row o kind (p .0), same, asked) (those-agree _ _ (length row) (λ f h. rw (p .1)))
+
+  pub lost-none : (a && b) ≡ false → lostOn r row o kind ≡ []
+  unfolding lostOn lost
+  lost-none e = by (true-or-false (fitting r row o))
+    where
+      by : (fitting r row o ≡ true) ⊎ (fitting r row o ≡ false) → lostOn r row o kind ≡ []
+      by (inl f) = let none = rw (fit, revoking, f) at e in rw f (those-never _ (folders r) (λ k h. rw none))
+      by (inr f) = rw f
+
+-- The walk leaves the row that the rules say.
+pub granted-left : (r : Register) (row : List ℕ) (o kind : ℕ) → fitting r row o ≡ true → (l : Label) → l ≡ labelAt (r .classes) (r .clients) o →
+    each (leftAt (r .classes) (r .clients) l o kind) row ≡ rowGranted r row o kind
+unfolding rowAfter
+granted-left r row o kind fit l asked = rw (rowGranted-fits r row o kind fit, asked) (each-agree _ (cellAfter r row o kind) row (λ i h. refl))
+
+pub unfit-left : (r : Register) (row : List ℕ) (o kind : ℕ) → fitting r row o ≡ false → row ≡ rowGranted r row o kind
+unfolding rowGranted
+unfit-left r row o kind e = rw e

@@ -1,0 +1,62 @@
+-- `any` meets its contract: the flag says whether a folder that the walk has passed is of the sort.
+use Rattle.row.specs.Cut.{ofSortAt}
+use Rattle.vocabulary.proofs.Those.{some-those-suc, those-end}
+use Rattle.vocabulary.specs.Those.{those, some}
+use lib.ListN.{length}
+use mathlib.Core.Path.{_≡_, refl, ap, _∙_}
+use Prim.Native.Nat.{_≤_, _-_}
+use native.Mathlib.Omega.{arith}
+use borrow.Author.Needs.{needs}
+use Rattle.row.proofs.walks.any.Statement.{statement}
+use Rattle.row.proofs.walks.any.Tie as tie
+
+abbrev Inv-loop : tie.InvT-loop
+Inv-loop sort row classes clients o seen₀ f₀ seen f =
+    (f ≤ length row) × (seen ≡ some (those (ofSortAt sort row classes clients o) f))
+
+abbrev μ-loop : tie.MeasureT-loop
+μ-loop sort row classes clients o seen₀ f₀ seen f =
+    length row - f
+
+loop-holds : tie.Need-loop-holds Inv-loop μ-loop
+unfolding those
+loop-holds c =
+    (omega arith, refl)
+
+shared-slice-read-of-sort : tie.Need-shared-slice-read-of-sort Inv-loop μ-loop
+shared-slice-read-of-sort c = search needs
+
+label-at-requires : tie.Need-label-at-requires Inv-loop μ-loop
+label-at-requires c κs = search needs
+
+of-sort-requires : tie.Need-of-sort-requires Inv-loop μ-loop
+of-sort-requires c κs = search needs
+
+add-f : tie.Need-add-f Inv-loop μ-loop
+add-f c = search needs
+
+loop-less : tie.Need-loop-less Inv-loop μ-loop
+loop-less c = search needs
+
+loop-again : tie.Need-loop-again Inv-loop μ-loop
+loop-again c =
+    (omega arith, rw (some-those-suc, c .of-sort .ensures, c .before .label-at .ensures, c .before .before .before .before .loop .inv .1))
+
+returns : tie.Need-returns Inv-loop μ-loop
+returns c =
+    c .before .loop .inv .1 ∙ ap some (those-end _ _ _ (c .loop-test .left) (c .before .loop .inv .0))
+
+pub any-spec : {M : Type 1} → statement M
+any-spec =
+    tie.close
+    (tie.spec
+    Inv-loop
+    μ-loop
+    loop-holds
+    shared-slice-read-of-sort
+    label-at-requires
+    of-sort-requires
+    add-f
+    loop-less
+    loop-again
+    returns)

@@ -1,0 +1,68 @@
+-- `first` meets its contract: no folder that the walk has passed is of the sort.
+use Rattle.row.specs.Cut.{ofSortAt}
+use Rattle.vocabulary.proofs.Those.{first-end, those-none, first-found}
+use Rattle.vocabulary.specs.Those.{those}
+use lib.ListN.{length}
+use mathlib.Core.List.{[]}
+use mathlib.Core.Path.{_≡_, refl, sym, _∙_}
+use Prim.Native.Nat.{_≤_, _-_}
+use native.Mathlib.Omega.{arith}
+use borrow.Author.Needs.{needs}
+use Rattle.row.proofs.walks.first.Statement.{statement}
+use Rattle.row.proofs.walks.first.Tie as tie
+
+abbrev Inv-loop : tie.InvT-loop
+Inv-loop sort row classes clients o f₀ f =
+    (f ≤ length row) × (those (ofSortAt sort row classes clients o) f ≡ [])
+
+abbrev μ-loop : tie.MeasureT-loop
+μ-loop sort row classes clients o f₀ f =
+    length row - f
+
+loop-holds : tie.Need-loop-holds Inv-loop μ-loop
+unfolding those
+loop-holds c =
+    (omega arith, refl)
+
+shared-slice-read-of-sort : tie.Need-shared-slice-read-of-sort Inv-loop μ-loop
+shared-slice-read-of-sort c = search needs
+
+label-at-requires : tie.Need-label-at-requires Inv-loop μ-loop
+label-at-requires c κs = search needs
+
+of-sort-requires : tie.Need-of-sort-requires Inv-loop μ-loop
+of-sort-requires c κs = search needs
+
+returns : tie.Need-returns Inv-loop μ-loop
+returns c =
+    sym (first-found _ _ _ _ (c .before .before .before .before .before .loop .inv .1) (rw (c .before .before .label-at .ensures) at (sym (c .before .of-sort .ensures) ∙ c .if1 .taken)) (c .before .before .before .before .loop-test .taken))
+
+add-f : tie.Need-add-f Inv-loop μ-loop
+add-f c = search needs
+
+loop-less : tie.Need-loop-less Inv-loop μ-loop
+loop-less c = search needs
+
+loop-again : tie.Need-loop-again Inv-loop μ-loop
+loop-again c =
+    (omega arith, those-none _ _ (c .before .before .before .before .before .loop .inv .1) (rw (c .before .before .label-at .ensures) at (sym (c .before .of-sort .ensures) ∙ c .if1 .left)))
+
+returns-2 : tie.Need-returns-2 Inv-loop μ-loop
+returns-2 c =
+    sym (first-end _ _ _ (c .before .loop .inv .1) (c .before .loop .inv .0) (c .loop-test .left))
+
+pub first-spec : {M : Type 1} → statement M
+first-spec =
+    tie.close
+    (tie.spec
+    Inv-loop
+    μ-loop
+    loop-holds
+    shared-slice-read-of-sort
+    label-at-requires
+    of-sort-requires
+    returns
+    add-f
+    loop-less
+    loop-again
+    returns-2)

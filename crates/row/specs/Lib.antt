@@ -1,0 +1,4 @@
+-- The rules:
+pub mod Row
+-- Internal:
+pub mod Cut
