@@ -5,8 +5,8 @@ use mathlib.Core.Path.{_≡_, refl}
 use lib.ListN.{length, getD, set}
 use native.Mathlib.Nat.{div-one}
 use native.Mathlib.Omega.{arith}
+use Rattle.packing.specs.Cut.{filled}
 use Rattle.packing.specs.Packed.{byteOf, from, cellAt}
-use Rattle.packing.specs.Tabulate.{filled}
 use Rattle.packing.proofs.Tabulates.{set-four}
 
 -- cell j of byte k stands at place 4 k + j

@@ -7,7 +7,8 @@ use native.Mathlib.Decide.{decLt}
 use native.Mathlib.Omega.{arith}
 use borrow.Author.Tests.{eq-eqb, ne-eqb, ltb-false, le-ltb}
 use Rattle.vocabulary.specs.Answer.{answer, judge}
-use Rattle.packing.specs.Packed.{AllCells, quarter, packed, unpacked, unused}
+use Rattle.packing.specs.Cut.{AllCells}
+use Rattle.packing.specs.Packed.{quarter, packed, unpacked, unused}
 use Rattle.packing.specs.CopyOutcome.{copyOutcome, packs, unpacks}
 use Rattle.cells.specs.Above.{above, aboves, firstAbove}
 use Rattle.cells.proofs.Above.{above-found}

@@ -12,7 +12,8 @@ use native.Mathlib.Omega.{arith}
 use borrow.Author.Tests.{eqb-true, not-false}
 use Rattle.vocabulary.specs.Answer.{answer, check, judge}
 use Rattle.vocabulary.proofs.Those.{some-none}
-use Rattle.packing.specs.Packed.{AllCells, quarter, byteOf, byteAt, packed, from, cellAt, unpacked, unused}
+use Rattle.packing.specs.Cut.{AllCells}
+use Rattle.packing.specs.Packed.{quarter, byteOf, byteAt, packed, from, cellAt, unpacked, unused}
 use Rattle.packing.specs.CopyOutcome.{packs, unpacks}
 use Rattle.cells.specs.Above.{aboves}
 use Rattle.packing.specs.RoundTrip.{UnpackOfPack, PackOfUnpack}

@@ -8,7 +8,8 @@ use native.Mathlib.Decide.{le-ind}
 use native.Mathlib.Omega.{arith}
 use lib.ListN.{length, getD, drop, set, length-append, List·getD-append, drop-of-length-le}
 use lib.Seq.{drop-cons, drop-at, set-at, getD-at}
-use Rattle.packing.specs.Tabulate.{tabulate, filled}
+use Rattle.packing.specs.Cut.{filled}
+use Rattle.packing.specs.Tabulate.{tabulate}
 
 pub length-tabulate : (f : ℕ → ℕ) (n : ℕ) → length (tabulate f n) ≡ n
 unfolding tabulate

@@ -1,12 +1,8 @@
 -- The packed form of a list of cells (document 01, 'The matrix').
-use Prim.Native.Nat.{ℕ, _+_, _*_, _/_, _%_, _^_, _≤_}
+use Prim.Native.Nat.{ℕ, _+_, _*_, _/_, _%_, _^_}
 use mathlib.Core.List.{List}
 use lib.ListN.{length, getD}
 use Rattle.packing.specs.Tabulate.{tabulate}
-
--- Every cell is 0 to 3.
-abbrev pub AllCells : List ℕ → Type 0
-AllCells cells = (i : ℕ) → getD cells i 0 ≤ 3
 
 -- 'Length one quarter of the cells rounded up.'
 abbrev pub quarter : ℕ → ℕ

@@ -2,8 +2,8 @@
 ghost use mathlib.Core.Path.{_≡_};
 ghost use Prim.Native.Nat.{_+_, _*_, _≤_, _<_};
 ghost use lib.ListN.{length, getD};
-ghost use Rattle.packing.specs.Packed.{AllCells, quarter, byteOf, byteAt, packed, from, cellAt, unpacked, unused};
-ghost use Rattle.packing.specs.Tabulate.{filled};
+ghost use Rattle.packing.specs.Cut.{AllCells, filled};
+ghost use Rattle.packing.specs.Packed.{quarter, byteOf, byteAt, packed, from, cellAt, unpacked, unused};
 ghost use Rattle.packing.specs.CopyOutcome.{copyOutcome, packs, unpacks};
 ghost use Rattle.packing.specs.Answers.{packing, unpacking};
 

@@ -2,8 +2,8 @@
 use Prim.Native.Nat.{_≤_, _-_}
 use mathlib.Core.Path.{_≡_, refl}
 use lib.ListN.{length}
+use Rattle.packing.specs.Cut.{filled}
 use Rattle.packing.specs.Packed.{byteAt, packed}
-use Rattle.packing.specs.Tabulate.{filled}
 use Rattle.packing.proofs.Tabulates.{filled-zero, set-filled, filled-length}
 use borrow.Author.Needs.{needs}
 use Rattle.packing.proofs.write_bytes.Statement.{statement}

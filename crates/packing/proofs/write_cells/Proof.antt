@@ -4,8 +4,8 @@ use Rattle.packing.proofs.Cells.{filled-byte}
 use Prim.Native.Nat.{_≤_, _-_, _+_, _*_}
 use mathlib.Core.Path.{_≡_, refl, ap, _∙_}
 use lib.ListN.{length}
+use Rattle.packing.specs.Cut.{filled}
 use Rattle.packing.specs.Packed.{cellAt, unpacked}
-use Rattle.packing.specs.Tabulate.{filled}
 use Rattle.packing.proofs.Tabulates.{filled-zero, filled-again}
 use native.Mathlib.Omega.{arith}
 use borrow.Author.Needs.{needs}
