@@ -6,9 +6,9 @@ use mathlib.Core.Path.{_≡_, refl, ap}
 use mathlib.Core.List.{List, [], _∷_}
 use lib.ListN.{length, set, length-set}
 use lib.Seq.{sets}
-use Rattle.desk_core.specs.Lines.{Item, logins, folder, request, ill, lineAt}
+use Rattle.desk_lines.specs.Lines.{Line, loginsLine, folderLine, requestLine, illLine, lineAt}
 use Rattle.desk_core.specs.Output.{Filed, filed, filedOn, filedBy, filedAt}
-use Rattle.desk_core.proofs.Onward.{Ahead, line-ahead, line-past}
+use Rattle.desk_lines.proofs.Onward.{Ahead, line-ahead, line-past}
 
 -- Fuel that reaches the text's end is as good as more.
 filed-enough : (f g : ℕ) (text : List ℕ) (place : ℕ) → length text ≤ place + f → length text ≤ place + g → filedBy f text place ≡ filedBy g text place
@@ -18,18 +18,18 @@ filed-enough zero (suc g) text place h k = rw (line-past text place (omega arith
 filed-enough (suc f) zero text place h k = rw (line-past text place (omega arith))
 filed-enough (suc f) (suc g) text place h k = on (lineAt text place) (line-ahead text place) (λ next e. filed-enough f g text next (omega arith) (omega arith))
   where
-    on : (item : Item) → Ahead text place item → ((next : ℕ) → place < next → filedBy f text next ≡ filedBy g text next)
-        → filedOn item place (filedBy f text) ≡ filedOn item place (filedBy g text)
-    on (folder class client next) ahead more = rw (more next (ahead .0))
-    on (logins n next) ahead more = refl
-    on (request kind login o next) ahead more = refl
-    on ill ahead more = refl
+    on : (line : Line) → Ahead text place line → ((next : ℕ) → place < next → filedBy f text next ≡ filedBy g text next)
+        → filedOn line place (filedBy f text) ≡ filedOn line place (filedBy g text)
+    on (folderLine class client next) ahead more = rw (more next (ahead .0))
+    on (loginsLine n next) ahead more = refl
+    on (requestLine kind login o next) ahead more = refl
+    on illLine ahead more = refl
 
 pub filed-on : (text : List ℕ) (place : ℕ) → filedAt text place ≡ filedOn (lineAt text place) place (filedAt text)
 unfolding filedAt filedBy
 filed-on text place = filed-enough (length text) (suc (length text)) text place (omega arith) (omega arith)
 
-pub filed-folder : (text : List ℕ) (place class client next : ℕ) → lineAt text place ≡ folder class client next
+pub filed-folder : (text : List ℕ) (place class client next : ℕ) → lineAt text place ≡ folderLine class client next
     → filedAt text place ≡ filed (class ∷ filedAt text next .classes) (client ∷ filedAt text next .clients) (filedAt text next .place)
 filed-folder text place class client next e = rw (filed-on, e)
 
@@ -38,12 +38,12 @@ pub filed-even : (text : List ℕ) (place : ℕ) → length (filedAt text place 
 unfolding filedAt filedBy
 filed-even text place = by (length text) place
   where
-    on : (item : Item) (place : ℕ) (more : ℕ → Filed) → ((next : ℕ) → length (more next .clients) ≡ length (more next .classes))
-        → length (filedOn item place more .clients) ≡ length (filedOn item place more .classes)
-    on (folder class client next) place more even = ap suc (even next)
-    on (logins n next) place more even = refl
-    on (request kind login o next) place more even = refl
-    on ill place more even = refl
+    on : (line : Line) (place : ℕ) (more : ℕ → Filed) → ((next : ℕ) → length (more next .clients) ≡ length (more next .classes))
+        → length (filedOn line place more .clients) ≡ length (filedOn line place more .classes)
+    on (folderLine class client next) place more even = ap suc (even next)
+    on (loginsLine n next) place more even = refl
+    on (requestLine kind login o next) place more even = refl
+    on illLine place more even = refl
 
     by : (fuel place : ℕ) → length (filedBy fuel text place .clients) ≡ length (filedBy fuel text place .classes)
     by zero place = refl
@@ -74,7 +74,7 @@ module _ (text : List ℕ) (place : ℕ) (cs₀ ds₀ : List ℕ) where
         end = refl;
       }
 
-  pub stored-more : (cs ds : List ℕ) (folders at class client next : ℕ) → Stored cs ds folders at → lineAt text at ≡ folder class client next
+  pub stored-more : (cs ds : List ℕ) (folders at class client next : ℕ) → Stored cs ds folders at → lineAt text at ≡ folderLine class client next
       → Stored (set cs folders class) (set ds folders client) (folders + 1) next
   stored-more cs ds folders at class client next s e =
       let more = filed-folder text at class client next e in

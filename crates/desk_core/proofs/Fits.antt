@@ -1,5 +1,5 @@
 -- What the opening prints, and what a step prints, fits in 4,096 bytes.
-use Prim.Native.Nat.{ℕ, suc, _≤_, _<_, _^_}
+use Prim.Native.Nat.{ℕ, _≤_, _<_, _^_}
 use native.Mathlib.Omega.{arith}
 use mathlib.Core.Path.{_≡_}
 use mathlib.Core.Logic.{_⊎_, inl, inr}
@@ -15,7 +15,8 @@ use Rattle.policy.specs.Session.{answerLine}
 use Rattle.policy.specs.Session as session
 use Rattle.log_exact.proofs.Rising.{rising-less}
 use Rattle.log_exact.proofs.Appended.{logged-well-formed}
-use Rattle.desk_core.specs.Lines.{Item, logins, folder, request, ill, ended, lineAt, lineNumber}
+use Rattle.desk_lines.specs.Lines.{Line, loginsLine, folderLine, requestLine, illLine, ended, lineAt, lineNumber}
+use Rattle.desk_lines.proofs.Ended.{ended-most}
 use Rattle.desk_core.specs.Text.{decimal, badLine, badRegister, lineText}
 use Rattle.desk_core.specs.Output.{Filed, filedAt, ending, isRequest}
 use Rattle.desk_core.specs.Step.{openedWith, openedOn, firstOn, opened, steppedOn, stepped}
@@ -24,15 +25,6 @@ use Rattle.desk_core.proofs.Printed.{printed-first}
 use Rattle.desk_core.proofs.Small.{printed-most, rising-small, register-few, outcome-most}
 
 -- ---- a line's number
-
-ended-most : (text : List ℕ) → ended text ≤ length text
-unfolding ended
-ended-most [] = omega arith
-ended-most (b ∷ bs) = by (eqb b 10) (ended-most bs)
-  where
-    by : (t : Bool) → ended bs ≤ length bs → cond t (suc (ended bs)) (ended bs) ≤ suc (length bs)
-    by true h = omega arith
-    by false h = omega arith
 
 bad-line-fits : (text : List ℕ) (place : ℕ) → length text < 2 ^ 64 → length (badLine (lineNumber text place)) ≤ 4096
 bad-line-fits text place h =
@@ -71,11 +63,11 @@ pub step-fits : (text : List ℕ) (r : Register) (place : ℕ) (matrix : List �
 unfolding stepped
 step-fits text r place matrix log h k = by (lineAt text place)
   where
-    by : (item : Item) → length (steppedOn item text r place matrix log .text) ≤ 4096
-    by (request kind login o next) = line-fits r matrix (session.request kind login o) log k
-    by (logins n next) = ending-fits text place h
-    by (folder class client next) = ending-fits text place h
-    by ill = ending-fits text place h
+    by : (line : Line) → length (steppedOn line text r place matrix log .text) ≤ 4096
+    by (requestLine kind login o next) = line-fits r matrix (session.request kind login o) log k
+    by (loginsLine n next) = ending-fits text place h
+    by (folderLine class client next) = ending-fits text place h
+    by illLine = ending-fits text place h
 
 -- ---- the opening
 
@@ -101,12 +93,12 @@ opened-on-fits p text f h = by (true-or-false (isRequest (lineAt text (f .place)
     by (inl e) = rw e (opened-with-fits (registerOf p (f .classes) (f .clients)) (f .place))
     by (inr e) = rw e (bad-line-fits text (f .place) h)
 
-first-fits : (item : Item) (text : List ℕ) → length text < 2 ^ 64 → length (firstOn item text .text) ≤ 4096
+first-fits : (line : Line) (text : List ℕ) → length text < 2 ^ 64 → length (firstOn line text .text) ≤ 4096
 unfolding ended
-first-fits (logins p next) text h = opened-on-fits p text (filedAt text next) h
-first-fits (folder class client next) text h = bad-line-fits text 0 h
-first-fits (request kind login o next) text h = bad-line-fits text 0 h
-first-fits ill text h = bad-line-fits text 0 h
+first-fits (loginsLine p next) text h = opened-on-fits p text (filedAt text next) h
+first-fits (folderLine class client next) text h = bad-line-fits text 0 h
+first-fits (requestLine kind login o next) text h = bad-line-fits text 0 h
+first-fits illLine text h = bad-line-fits text 0 h
 
 pub opening-fits : (text : List ℕ) → length (opened text .text) ≤ 4096
 unfolding opened

@@ -9,7 +9,7 @@ use Rattle.policy.specs.Session as session
 use Rattle.monitor.specs.declared.Reply.{Reply}
 use Rattle.monitor.specs.Reply.{replyAnswer, replied}
 use Rattle.desk_core.specs.declared.Text.{Text}
-use Rattle.desk_core.specs.Lines.{Item, logins, folder, request, ill, lineAt}
+use Rattle.desk_lines.specs.Lines.{Line, loginsLine, folderLine, requestLine, illLine, lineAt}
 use Rattle.desk_core.specs.Output.{isRequest}
 use Rattle.desk_core.specs.Recorded.{recordText}
 use Rattle.desk_core.specs.Step.{Left, textOf, over, steppedOn, stepped, leftBy}
@@ -17,17 +17,17 @@ use Rattle.desk_core.specs.Text.{unloggedText}
 use Rattle.desk_core.proofs.LoggedLine.{answer-text}
 
 module _ (text : List ℕ) (r : Register) (place : ℕ) (matrix : List ℕ) (log : Log) where
-  over-on : (item : Item) → isRequest item ≡ false → steppedOn item text r place matrix log ≡ over text place matrix log
-  over-on (logins n next) e = refl
-  over-on (folder class client next) e = refl
-  over-on (request kind login o next) e = absurd (false≢true (sym e))
-  over-on ill e = refl
+  over-on : (line : Line) → isRequest line ≡ false → steppedOn line text r place matrix log ≡ over text place matrix log
+  over-on (loginsLine n next) e = refl
+  over-on (folderLine class client next) e = refl
+  over-on (requestLine kind login o next) e = absurd (false≢true (sym e))
+  over-on illLine e = refl
 
   pub stepped-over : isRequest (lineAt text place) ≡ false → stepped text r place matrix log ≡ over text place matrix log
   unfolding stepped
   stepped-over e = over-on (lineAt text place) e
 
-  module _ (kind login o next : ℕ) (here : lineAt text place ≡ request kind login o next) (serial : log .serial ≤ 65535) where
+  module _ (kind login o next : ℕ) (here : lineAt text place ≡ requestLine kind login o next) (serial : log .serial ≤ 65535) where
     abbrev asked : Request
     asked = session.request kind login o
 

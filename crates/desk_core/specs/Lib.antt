@@ -1,7 +1,5 @@
 pub mod Text
-pub mod Lines
 pub mod Output
 pub mod Step
 pub mod Joined
-pub mod Reads
 pub mod Recorded

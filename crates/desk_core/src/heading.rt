@@ -1,9 +1,8 @@
 // The lines before the requests.
 use crate::Opening;
 use crate::Text;
-use crate::lines;
-use crate::lines::Line;
 use crate::printing;
+use desk_lines::Line;
 use register::Verdict;
 ghost use Prim.Native.Nat.{ℕ};
 ghost use mathlib.Core.Path.{_≡_};
@@ -13,7 +12,7 @@ ghost use lib.Dec.{leb};
 ghost use lib.ListN.{length, replicate, set};
 ghost use lib.Seq.{sets};
 ghost use Rattle.register.specs.Register.{registerOf};
-ghost use Rattle.desk_core.specs.Lines.{lineAt};
+ghost use Rattle.desk_lines.specs.Lines.{lineAt};
 ghost use Rattle.desk_core.specs.Output.{filedAt, isRequest, ending};
 ghost use Rattle.desk_core.specs.Step.{closing, openedWith, openedOn, firstOn, openingOf, textOf};
 
@@ -39,14 +38,14 @@ fn file(text: &[u8], place: usize, classes: &mut [u16], clients: &mut [u16]) -> 
     let mut folders: usize = 0;
     let mut at = place;
     loop {
-        match lines::read_line(text, at) {
+        match desk_lines::read_line(text, at) {
             Line::Folder {
                 class,
                 client,
                 next,
             } => {
-                store(classes, folders, class);
-                store(clients, folders, client);
+                store(classes, folders, class.0);
+                store(clients, folders, client.0);
                 folders += 1;
                 at = next;
             }
@@ -102,13 +101,8 @@ fn checked(logins: u16, filing: Filing, classes: [u16; 512], clients: [u16; 512]
 fn filing_ends(text: &[u8], place: usize) -> bool
     ensures { λ r. ⌜ r ≡ isRequest (lineAt (now (text .entry)) place) || leb (length (now (text .entry))) place ⌝ }
 {
-    match lines::read_line(text, place) {
-        Line::Request {
-            kind: _,
-            login: _,
-            folder: _,
-            next: _,
-        } => true,
+    match desk_lines::read_line(text, place) {
+        Line::Request { asked: _, next: _ } => true,
         _ => text.len() <= place,
     }
 }
@@ -120,7 +114,7 @@ pub(crate) fn ending(text: &[u8], place: usize) -> Text
     if text.len() <= place {
         return printing::nothing();
     }
-    printing::bad_line(lines::line_number(text, place))
+    printing::bad_line(desk_lines::line_number(text, place))
 }
 
 // From the folders' lines on.
@@ -141,7 +135,7 @@ fn from_folders(text: &[u8], logins: u16, place: usize) -> Opening
 pub(crate) fn from_first(text: &[u8]) -> Opening
     ensures { λ r. ⌜ r ≡ openingOf (firstOn (lineAt (now (text .entry)) 0) (now (text .entry))) ⌝ }
 {
-    match lines::read_line(text, 0) {
+    match desk_lines::read_line(text, 0) {
         Line::Logins(n, next) => from_folders(text, n, next),
         _ => closed(printing::bad_line(1)),
     }

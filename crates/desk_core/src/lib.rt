@@ -1,14 +1,11 @@
 // The desk's text interface over the monitor (document 01, 'The desk program'). The output is printed in steps: `open` takes the input up to
 // its first request, and `step` one line after the other from there.
-use ids::FolderNo;
-use ids::LoginNo;
-use lines::Line;
+use desk_lines::Line;
 ghost use mathlib.Core.Path.{_≡_};
 ghost use Rattle.register.specs.Register.{registerOf};
 ghost use Rattle.monitor.specs.Reply.{logOf};
 ghost use Rattle.desk_core.specs.Step.{opened, openingOf, stepped, leftBy};
 
-mod lines; // a line of the input, read
 mod heading; // the lines before the requests
 mod printing; // numbers and lines, printed
 mod serving; // a request's line
@@ -64,21 +61,18 @@ pub fn step(
 ) -> Progress
     ensures { λ r. ⌜ record { step = r; matrix = now (matrix .exit); log = now (log .exit) } ≡ leftBy (stepped (now (text .entry)) (registerOf logins (now (classes .entry)) (now (clients .entry))) place (now (matrix .entry)) (logOf (now (log .entry)) end serial)) ⌝ }
 {
-    match lines::read_line(text, place) {
-        Line::Request {
-            kind,
-            login,
-            folder,
-            next,
-        } => {
+    match desk_lines::read_line(text, place) {
+        Line::Request { asked, next } => {
+            let login = asked.login;
+            let folder = asked.folder;
             let reply = monitor::request(
                 logins,
                 classes,
                 clients,
                 matrix,
-                LoginNo(login),
-                FolderNo(folder),
-                kind,
+                login,
+                folder,
+                asked.kind,
                 log,
                 end,
                 serial,

@@ -5,9 +5,8 @@ use mathlib.Core.Path.{_≡_, sym, ap, _∙_}
 use lib.ListN.{length}
 use borrow.Author.Needs.{needs}
 use Rattle.desk_core.specs.Output.{filedAt}
-use Rattle.desk_core.specs.Lines.{folder, lineAt}
-use Rattle.desk_core.specs.Reads.{lineItem}
-use Rattle.desk_core.proofs.Onward.{After, line-ahead}
+use Rattle.desk_lines.specs.Lines.{folderLine, lineAt, lineOf}
+use Rattle.desk_lines.proofs.Onward.{After, line-ahead}
 use Rattle.desk_core.proofs.Arms.{no-folder}
 use Rattle.desk_core.proofs.Filed.{Stored, stored-none, stored-more, stored-all, filed-on}
 use Rattle.desk_core.proofs.heading.file.Tie as tie
@@ -20,8 +19,8 @@ abbrev μ-loop : tie.MeasureT-loop
 μ-loop text place classes₀ clients₀ folders₀ at₀ classes clients folders at = length text - at
 
 -- the line of a turn, which ends after its place
-line : (c : tie.After-class Inv-loop μ-loop) → lineAt (c .before .before .before .before .before .before .before .args .text .now) (c .before .before .before .loop .at) ≡ folder (c .class .given .0 .0) (c .class .given .0 .1 .0) (c .class .given .0 .1 .1 .0)
-line c = sym (c .before .before .read-line .ensures) ∙ ap lineItem (c .class .given .1)
+line : (c : tie.After-class Inv-loop μ-loop) → lineAt (c .before .before .before .before .before .before .before .args .text .now) (c .before .before .before .loop .at) ≡ folderLine (c .class .given .0 .0 .0) (c .class .given .0 .1 .0 .0) (c .class .given .0 .1 .1 .0)
+line c = sym (c .before .before .read-line .ensures) ∙ ap lineOf (c .class .given .1)
 
 ahead : (c : tie.After-class Inv-loop μ-loop) → After (c .before .before .before .before .before .before .before .args .text .now) (c .before .before .before .loop .at) (c .class .given .0 .1 .1 .0)
 ahead c = rw (line c) at (line-ahead (c .before .before .before .before .before .before .before .args .text .now) (c .before .before .before .loop .at))

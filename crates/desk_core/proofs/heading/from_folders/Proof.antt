@@ -5,7 +5,7 @@ use lib.Dec.{leb}
 use borrow.Author.Needs.{needs}
 use Rattle.vocabulary.proofs.Bools.{neither}
 use Rattle.desk_core.specs.Output.{isRequest, filedAt, ending}
-use Rattle.desk_core.specs.Lines.{lineAt}
+use Rattle.desk_lines.specs.Lines.{lineAt}
 use Rattle.desk_core.specs.Step.{openedOn}
 use Rattle.desk_core.proofs.Filed.{filed-even}
 use Rattle.desk_core.proofs.heading.from_folders.Tie as tie
