@@ -7,6 +7,7 @@ use mathlib.Core.List.{List, [], _∷_}
 use lib.ListN.{length, set, length-set}
 use lib.Seq.{sets}
 use Rattle.desk_lines.specs.Lines.{Line, loginsLine, folderLine, requestLine, illLine, lineAt}
+use Rattle.desk_core.specs.Heading.{stored, storedIn}
 use Rattle.desk_core.specs.Output.{Filed, filed, filedOn, filedBy, filedAt}
 use Rattle.desk_lines.proofs.Onward.{Ahead, line-ahead, line-past}
 
@@ -53,7 +54,7 @@ filed-even text place = by (length text) place
 
 module _ (text : List ℕ) (place : ℕ) (cs₀ ds₀ : List ℕ) where
   -- Some folders are stored and the line at a place is next: with the folders from there on, all are.
-  pub record Stored (cs ds : List ℕ) (folders at : ℕ) : Type 0 where
+  pub record Partway (cs ds : List ℕ) (folders at : ℕ) : Type 0 where
     pub few : folders ≤ at
     pub room : length cs ≡ length cs₀
     pub room₂ : length ds ≡ length ds₀
@@ -62,8 +63,8 @@ module _ (text : List ℕ) (place : ℕ) (cs₀ ds₀ : List ℕ) where
     pub count : folders + length (filedAt text at .classes) ≡ length (filedAt text place .classes)
     pub end : filedAt text at .place ≡ filedAt text place .place
 
-  pub stored-none : Stored cs₀ ds₀ 0 place
-  stored-none =
+  pub partway-none : Partway cs₀ ds₀ 0 place
+  partway-none =
       record {
         few = omega arith;
         room = refl;
@@ -74,9 +75,9 @@ module _ (text : List ℕ) (place : ℕ) (cs₀ ds₀ : List ℕ) where
         end = refl;
       }
 
-  pub stored-more : (cs ds : List ℕ) (folders at class client next : ℕ) → Stored cs ds folders at → lineAt text at ≡ folderLine class client next
-      → Stored (set cs folders class) (set ds folders client) (folders + 1) next
-  stored-more cs ds folders at class client next s e =
+  pub partway-more : (cs ds : List ℕ) (folders at class client next : ℕ) → Partway cs ds folders at → lineAt text at ≡ folderLine class client next
+      → Partway (set cs folders class) (set ds folders client) (folders + 1) next
+  partway-more cs ds folders at class client next s e =
       let more = filed-folder text at class client next e in
       let ahead = rw e at (line-ahead text at) in
       let count = rw more at (s .count) in
@@ -90,9 +91,8 @@ module _ (text : List ℕ) (place : ℕ) (cs₀ ds₀ : List ℕ) where
         end = rw more at (s .end);
       }
 
-  pub stored-all : (cs ds : List ℕ) (folders at : ℕ) → Stored cs ds folders at → filedAt text at ≡ filed [] [] at
-      → (cs ≡ sets cs₀ 0 (filedAt text place .classes)) × (ds ≡ sets ds₀ 0 (filedAt text place .clients))
-      × (folders ≡ length (filedAt text place .classes)) × (at ≡ filedAt text place .place)
-  stored-all cs ds folders at s e =
-      let count = rw e at (s .count) in
-      (rw e at (s .classes), rw e at (s .clients), omega arith, rw e at (s .end))
+  pub partway-all : (cs ds : List ℕ) (folders at : ℕ) → Partway cs ds folders at → filedAt text at ≡ filed [] [] at
+      → stored (record { folders = folders; place = at }) cs ds ≡ storedIn cs₀ ds₀ (filedAt text place)
+  partway-all cs ds folders at s e =
+      let count : folders ≡ length (filedAt text place .classes) = omega (arith, rw e at (s .count)) in
+      rw (count, rw e at (s .classes), rw e at (s .clients), rw e at (s .end))

@@ -7,7 +7,7 @@ use mathlib.Core.Logic.{_⊎_, inl, inr}
 use mathlib.Core.List.{List, [], _++_, append-assoc, append-nil}
 use lib.Dec.{eqb, leb, ltb}
 use lib.ListN.{length, replicate, take, length-replicate}
-use lib.Seq.{sets, sets-eq, take-append-seam}
+use lib.Seq.{sets}
 use borrow.Author.Tests.{eqb-true, leb-true, ltb-false}
 use Rattle.vocabulary.proofs.Bools.{true-or-false, both}
 use Rattle.serial.specs.Serial.{following}
@@ -19,22 +19,13 @@ use Rattle.policy.proofs.Accepted.{in-range}
 use Rattle.log_exact.proofs.Appended.{logged-left}
 use Rattle.log_exact.proofs.WriterPasses.{unlogged-left}
 use Rattle.desk_lines.specs.Lines.{Line, loginsLine, folderLine, requestLine, illLine, lineAt, lineNumber}
-use Rattle.desk_core.specs.Text.{inputTooLong, badLine, badRegister, lineText, linesText}
-use Rattle.desk_core.specs.Output.{Filed, filedAt, askedBy, askedAt, ending, isRequest, served, checkedThen, filedThen, firstThen, output}
-use Rattle.desk_core.specs.Step.{textOf, Opened, opened, openedOn, openedWith, closedWith, firstOn, Stepped, stepped, openingOf}
-use Rattle.desk_core.specs.Joined.{shown, stepsBy, run, Joined}
+use Rattle.desk_print.specs.Text.{inputTooLong, badLine, badRegister, textOf, shown}
+use Rattle.desk_print.proofs.Printed.{taken, shown-text}
+use Rattle.desk_core.specs.Output.{Filed, filedAt, askedBy, askedAt, lineText, linesText, ending, isRequest, served, checkedThen, filedThen, firstThen, output}
+use Rattle.desk_core.specs.Step.{Opened, opened, openedOn, openedWith, closedWith, firstOn, Stepped, stepped, openingOf}
+use Rattle.desk_core.specs.Joined.{stepsBy, run, Joined}
 use Rattle.desk_lines.proofs.Onward.{Ahead, line-ahead}
 use Rattle.desk_core.proofs.Fits.{opening-fits, step-fits}
-
--- ---- what is handed back is what is printed
-
--- A text that fits its buffer is found there again.
-taken : (buffer text : List ℕ) → length text ≤ length buffer → take (length text) (sets buffer 0 text) ≡ text
-taken buffer text h = rw (sets-eq text buffer 0 (omega arith)) (take-append-seam text _)
-
-shown-text : (text : List ℕ) → length text ≤ 4096 → shown (textOf text) ≡ text
-unfolding textOf
-shown-text text h = taken (replicate 4096 0) text (rw (length-replicate {A = ℕ} 4096 0) h)
 
 -- A run from an opening on.
 abbrev runOf : List ℕ → Opened → List ℕ

@@ -1,6 +1,3 @@
-pub mod Decimal
-pub mod Spaced
-pub mod Printed
 pub mod ListFrom
 pub mod RecordLine
 pub mod LoggedLine

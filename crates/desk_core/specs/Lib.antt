@@ -1,5 +1,8 @@
-pub mod Text
+-- The rules:
 pub mod Output
-pub mod Step
+-- Claims:
 pub mod Joined
+-- Internal:
+pub mod Step
+pub mod Heading
 pub mod Recorded

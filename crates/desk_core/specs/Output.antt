@@ -6,10 +6,10 @@ use lib.Dec.{eqb, leb, ltb}
 use lib.ListN.{length, replicate}
 use Rattle.register.specs.Register.{Register, registerOf, folders, registerAnswer}
 use Rattle.policy.specs.Outcome.{Request}
-use Rattle.policy.specs.Session.{newLog, session}
+use Rattle.policy.specs.Session.{AnswerLine, serialLine, dashLine, newLog, session}
 use Rattle.policy.specs.Session as session
 use Rattle.desk_lines.specs.Lines.{Line, loginsLine, folderLine, requestLine, illLine, lineAt, lineNumber}
-use Rattle.desk_core.specs.Text.{inputTooLong, badLine, badRegister, linesText}
+use Rattle.desk_print.specs.Text.{inputTooLong, badLine, badRegister, serialText, dashText}
 
 -- ---- the folders
 
@@ -72,6 +72,15 @@ unfoldable pub askedAt : List ℕ → ℕ → Asked
 askedAt text place = askedBy (length text) text place
 
 -- ---- the output
+
+-- A request's line, and the lines of requests.
+abbrev pub lineText : AnswerLine → List ℕ
+lineText (serialLine serial number list) = serialText serial number list
+lineText (dashLine number) = dashText number
+
+unfoldable pub linesText : List AnswerLine → List ℕ
+linesText [] = []
+linesText (line ∷ lines) = lineText line ++ linesText lines
 
 -- What ends the run at a place: nothing at the input's end; else a line that is ill-formed or misplaced there.
 unfoldable pub ending : List ℕ → ℕ → List ℕ

@@ -1,5 +1,5 @@
--- The output in steps: what is printed before the first request, and what each request line prints. `Joined.antt` says that together
--- they print the whole output.
+-- Internal: the output in steps, what is printed before the first request and what each request line prints. No rule of document 01 stands
+-- here: `Joined.antt` says that together the steps print the whole output.
 use Prim.Native.Nat.{ℕ}
 use mathlib.Core.Bool.{Bool, true, false, cond, _||_}
 use mathlib.Core.List.{List, []}
@@ -10,20 +10,12 @@ use Rattle.register.specs.Register.{Register, registerOf, registerAnswer}
 use Rattle.policy.specs.Outcome.{Log, Outcome, outcome}
 use Rattle.policy.specs.Session.{answerLine}
 use Rattle.policy.specs.Session as session
-use Rattle.desk_core.specs.declared.Text.{Text}
+use Rattle.desk_print.specs.declared.Text.{Text}
 use Rattle.desk_core.specs.declared.Opening.{Opening}
 use Rattle.desk_core.specs.declared.Progress.{Progress}
 use Rattle.desk_lines.specs.Lines.{Line, loginsLine, folderLine, requestLine, illLine, lineAt, lineNumber}
-use Rattle.desk_core.specs.Text.{inputTooLong, badLine, badRegister, lineText}
-use Rattle.desk_core.specs.Output.{Filed, filedAt, ending, isRequest}
-
--- A printed text as it is handed back: its bytes from the start of the buffer, zeros after them, and how many they are.
-unfoldable pub textOf : List ℕ → Text
-textOf bytes =
-    record {
-      bytes = sets (replicate 4096 0) 0 bytes;
-      len = length bytes;
-    }
+use Rattle.desk_print.specs.Text.{inputTooLong, badLine, badRegister, textOf}
+use Rattle.desk_core.specs.Output.{Filed, filedAt, lineText, ending, isRequest}
 
 -- ---- the opening
 
@@ -141,6 +133,14 @@ pub record Left : Type 0 where
   pub step : Progress
   pub matrix : List ℕ
   pub log : List ℕ
+
+abbrev pub left : Progress → List ℕ → List ℕ → Left
+left step matrix log =
+    record {
+      step = step;
+      matrix = matrix;
+      log = log;
+    }
 
 abbrev pub leftBy : Stepped → Left
 leftBy x =
