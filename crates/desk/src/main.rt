@@ -1,6 +1,6 @@
 // The desk (document 01, 'The desk program'): standard input to `desk_core` to standard output, nothing else.
 use desk_core::Opening;
-use desk_core::Text;
+use desk_print::Text;
 use libc::STDIN_FILENO;
 use libc::STDOUT_FILENO;
 ghost use mathlib.Core.Path.{_≡_};

@@ -6,9 +6,10 @@ use mathlib.Core.Path.{_≡_, refl, ap}
 use mathlib.Core.List.{List, [], _∷_}
 use lib.ListN.{length, set, length-set}
 use lib.Seq.{sets}
-use Rattle.desk_core.specs.Lines.{Item, logins, folder, request, ill, lineAt}
+use Rattle.desk_lines.specs.Lines.{Line, loginsLine, folderLine, requestLine, illLine, lineAt}
+use Rattle.desk_core.specs.Heading.{stored, storedIn}
 use Rattle.desk_core.specs.Output.{Filed, filed, filedOn, filedBy, filedAt}
-use Rattle.desk_core.proofs.Onward.{Ahead, line-ahead, line-past}
+use Rattle.desk_lines.proofs.Onward.{Ahead, line-ahead, line-past}
 
 -- Fuel that reaches the text's end is as good as more.
 filed-enough : (f g : ℕ) (text : List ℕ) (place : ℕ) → length text ≤ place + f → length text ≤ place + g → filedBy f text place ≡ filedBy g text place
@@ -18,18 +19,18 @@ filed-enough zero (suc g) text place h k = rw (line-past text place (omega arith
 filed-enough (suc f) zero text place h k = rw (line-past text place (omega arith))
 filed-enough (suc f) (suc g) text place h k = on (lineAt text place) (line-ahead text place) (λ next e. filed-enough f g text next (omega arith) (omega arith))
   where
-    on : (item : Item) → Ahead text place item → ((next : ℕ) → place < next → filedBy f text next ≡ filedBy g text next)
-        → filedOn item place (filedBy f text) ≡ filedOn item place (filedBy g text)
-    on (folder class client next) ahead more = rw (more next (ahead .0))
-    on (logins n next) ahead more = refl
-    on (request kind login o next) ahead more = refl
-    on ill ahead more = refl
+    on : (line : Line) → Ahead text place line → ((next : ℕ) → place < next → filedBy f text next ≡ filedBy g text next)
+        → filedOn line place (filedBy f text) ≡ filedOn line place (filedBy g text)
+    on (folderLine class client next) ahead more = rw (more next (ahead .0))
+    on (loginsLine n next) ahead more = refl
+    on (requestLine kind login o next) ahead more = refl
+    on illLine ahead more = refl
 
 pub filed-on : (text : List ℕ) (place : ℕ) → filedAt text place ≡ filedOn (lineAt text place) place (filedAt text)
 unfolding filedAt filedBy
 filed-on text place = filed-enough (length text) (suc (length text)) text place (omega arith) (omega arith)
 
-pub filed-folder : (text : List ℕ) (place class client next : ℕ) → lineAt text place ≡ folder class client next
+pub filed-folder : (text : List ℕ) (place class client next : ℕ) → lineAt text place ≡ folderLine class client next
     → filedAt text place ≡ filed (class ∷ filedAt text next .classes) (client ∷ filedAt text next .clients) (filedAt text next .place)
 filed-folder text place class client next e = rw (filed-on, e)
 
@@ -38,12 +39,12 @@ pub filed-even : (text : List ℕ) (place : ℕ) → length (filedAt text place 
 unfolding filedAt filedBy
 filed-even text place = by (length text) place
   where
-    on : (item : Item) (place : ℕ) (more : ℕ → Filed) → ((next : ℕ) → length (more next .clients) ≡ length (more next .classes))
-        → length (filedOn item place more .clients) ≡ length (filedOn item place more .classes)
-    on (folder class client next) place more even = ap suc (even next)
-    on (logins n next) place more even = refl
-    on (request kind login o next) place more even = refl
-    on ill place more even = refl
+    on : (line : Line) (place : ℕ) (more : ℕ → Filed) → ((next : ℕ) → length (more next .clients) ≡ length (more next .classes))
+        → length (filedOn line place more .clients) ≡ length (filedOn line place more .classes)
+    on (folderLine class client next) place more even = ap suc (even next)
+    on (loginsLine n next) place more even = refl
+    on (requestLine kind login o next) place more even = refl
+    on illLine place more even = refl
 
     by : (fuel place : ℕ) → length (filedBy fuel text place .clients) ≡ length (filedBy fuel text place .classes)
     by zero place = refl
@@ -53,7 +54,7 @@ filed-even text place = by (length text) place
 
 module _ (text : List ℕ) (place : ℕ) (cs₀ ds₀ : List ℕ) where
   -- Some folders are stored and the line at a place is next: with the folders from there on, all are.
-  pub record Stored (cs ds : List ℕ) (folders at : ℕ) : Type 0 where
+  pub record Partway (cs ds : List ℕ) (folders at : ℕ) : Type 0 where
     pub few : folders ≤ at
     pub room : length cs ≡ length cs₀
     pub room₂ : length ds ≡ length ds₀
@@ -62,8 +63,8 @@ module _ (text : List ℕ) (place : ℕ) (cs₀ ds₀ : List ℕ) where
     pub count : folders + length (filedAt text at .classes) ≡ length (filedAt text place .classes)
     pub end : filedAt text at .place ≡ filedAt text place .place
 
-  pub stored-none : Stored cs₀ ds₀ 0 place
-  stored-none =
+  pub partway-none : Partway cs₀ ds₀ 0 place
+  partway-none =
       record {
         few = omega arith;
         room = refl;
@@ -74,9 +75,9 @@ module _ (text : List ℕ) (place : ℕ) (cs₀ ds₀ : List ℕ) where
         end = refl;
       }
 
-  pub stored-more : (cs ds : List ℕ) (folders at class client next : ℕ) → Stored cs ds folders at → lineAt text at ≡ folder class client next
-      → Stored (set cs folders class) (set ds folders client) (folders + 1) next
-  stored-more cs ds folders at class client next s e =
+  pub partway-more : (cs ds : List ℕ) (folders at class client next : ℕ) → Partway cs ds folders at → lineAt text at ≡ folderLine class client next
+      → Partway (set cs folders class) (set ds folders client) (folders + 1) next
+  partway-more cs ds folders at class client next s e =
       let more = filed-folder text at class client next e in
       let ahead = rw e at (line-ahead text at) in
       let count = rw more at (s .count) in
@@ -90,9 +91,8 @@ module _ (text : List ℕ) (place : ℕ) (cs₀ ds₀ : List ℕ) where
         end = rw more at (s .end);
       }
 
-  pub stored-all : (cs ds : List ℕ) (folders at : ℕ) → Stored cs ds folders at → filedAt text at ≡ filed [] [] at
-      → (cs ≡ sets cs₀ 0 (filedAt text place .classes)) × (ds ≡ sets ds₀ 0 (filedAt text place .clients))
-      × (folders ≡ length (filedAt text place .classes)) × (at ≡ filedAt text place .place)
-  stored-all cs ds folders at s e =
-      let count = rw e at (s .count) in
-      (rw e at (s .classes), rw e at (s .clients), omega arith, rw e at (s .end))
+  pub partway-all : (cs ds : List ℕ) (folders at : ℕ) → Partway cs ds folders at → filedAt text at ≡ filed [] [] at
+      → stored (record { folders = folders; place = at }) cs ds ≡ storedIn cs₀ ds₀ (filedAt text place)
+  partway-all cs ds folders at s e =
+      let count : folders ≡ length (filedAt text place .classes) = omega (arith, rw e at (s .count)) in
+      rw (count, rw e at (s .classes), rw e at (s .clients), rw e at (s .end))

@@ -4,10 +4,10 @@ use native.Mathlib.Omega.{arith}
 use mathlib.Core.Path.{_≡_, refl, ap, sym, _∙_}
 use mathlib.Core.Bool.{Bool, true, false, cond, _&&_, _||_}
 use mathlib.Core.Logic.{_⊎_, inl, inr}
-use mathlib.Core.List.{List, [], _∷_, _++_, append-assoc, append-nil}
+use mathlib.Core.List.{List, [], _++_, append-assoc, append-nil}
 use lib.Dec.{eqb, leb, ltb}
 use lib.ListN.{length, replicate, take, length-replicate}
-use lib.Seq.{sets, sets-eq, take-append-seam}
+use lib.Seq.{sets}
 use borrow.Author.Tests.{eqb-true, leb-true, ltb-false}
 use Rattle.vocabulary.proofs.Bools.{true-or-false, both}
 use Rattle.serial.specs.Serial.{following}
@@ -18,23 +18,14 @@ use Rattle.policy.specs.Session as session
 use Rattle.policy.proofs.Accepted.{in-range}
 use Rattle.log_exact.proofs.Appended.{logged-left}
 use Rattle.log_exact.proofs.WriterPasses.{unlogged-left}
-use Rattle.desk_core.specs.Lines.{Item, logins, folder, request, ill, lineAt, lineNumber}
-use Rattle.desk_core.specs.Text.{inputTooLong, badLine, badRegister, lineText, linesText}
-use Rattle.desk_core.specs.Output.{Filed, filedAt, askedBy, askedAt, ending, isRequest, served, checkedThen, filedThen, firstThen, output}
-use Rattle.desk_core.specs.Step.{textOf, Opened, opened, openedOn, openedWith, closedWith, firstOn, Stepped, stepped, openingOf}
-use Rattle.desk_core.specs.Joined.{shown, stepsBy, run, Joined}
-use Rattle.desk_core.proofs.Onward.{Ahead, line-ahead}
+use Rattle.desk_lines.specs.Lines.{Line, loginsLine, folderLine, requestLine, illLine, lineAt, lineNumber}
+use Rattle.desk_print.specs.Text.{inputTooLong, badLine, badRegister, textOf, shown}
+use Rattle.desk_print.proofs.Printed.{taken, shown-text}
+use Rattle.desk_core.specs.Output.{Filed, filedAt, askedBy, askedAt, lineText, linesText, ending, isRequest, served, checkedThen, filedThen, firstThen, output}
+use Rattle.desk_core.specs.Step.{Opened, opened, openedOn, openedWith, closedWith, firstOn, Stepped, stepped, openingOf}
+use Rattle.desk_core.specs.Joined.{stepsBy, run, Joined}
+use Rattle.desk_lines.proofs.Onward.{Ahead, line-ahead}
 use Rattle.desk_core.proofs.Fits.{opening-fits, step-fits}
-
--- ---- what is handed back is what is printed
-
--- A text that fits its buffer is found there again.
-taken : (buffer text : List ℕ) → length text ≤ length buffer → take (length text) (sets buffer 0 text) ≡ text
-taken buffer text h = rw (sets-eq text buffer 0 (omega arith)) (take-append-seam text _)
-
-shown-text : (text : List ℕ) → length text ≤ 4096 → shown (textOf text) ≡ text
-unfolding textOf
-shown-text text h = taken (replicate 4096 0) text (rw (length-replicate {A = ℕ} 4096 0) h)
 
 -- A run from an opening on.
 abbrev runOf : List ℕ → Opened → List ℕ
@@ -73,11 +64,11 @@ module _ (text : List ℕ)
   unfolding stepped
   step-serial r place matrix log h = go (lineAt text place) refl
     where
-      go : (item : Item) → lineAt text place ≡ item → stepped text r place matrix log .log .serial ≤ 65535
-      go (logins n next) e = rw e h
-      go (folder class client next) e = rw e h
-      go ill e = rw e h
-      go (request kind login o next) e = rw e (serial-kept r matrix (session.request kind login o) log h)
+      go : (line : Line) → lineAt text place ≡ line → stepped text r place matrix log .log .serial ≤ 65535
+      go (loginsLine n next) e = rw e h
+      go (folderLine class client next) e = rw e h
+      go illLine e = rw e h
+      go (requestLine kind login o next) e = rw e (serial-kept r matrix (session.request kind login o) log h)
 
   steps-plain : (k : ℕ) (r : Register) (place : ℕ) (matrix : List ℕ) (log : Log) → log .serial ≤ 65535
       → stepsBy k text r place matrix log ≡ plainBy k text r place matrix log
@@ -94,28 +85,28 @@ module _ (text : List ℕ)
       → plainBy (suc k) text r place matrix log
       ≡ linesText (session r matrix log (askedBy k text place .requests) .lines) ++ ending text (askedBy k text place .place)
 
-  ahead : (item : Item) (place : ℕ) → lineAt text place ≡ item → Ahead text place item
-  ahead item place e = rw (← e) (line-ahead text place)
+  ahead : (line : Line) (place : ℕ) → lineAt text place ≡ line → Ahead text place line
+  ahead line place e = rw (← e) (line-ahead text place)
 
-  end-served : (r : Register) (item : Item) (place : ℕ) (matrix : List ℕ) (log : Log) → lineAt text place ≡ item → length text ≤ place
+  end-served : (r : Register) (line : Line) (place : ℕ) (matrix : List ℕ) (log : Log) → lineAt text place ≡ line → length text ≤ place
       → plainBy 1 text r place matrix log ≡ ending text place
   unfolding plainBy stepped
-  end-served r (logins n next) place matrix log e h = rw e (append-nil (ending text place))
-  end-served r (folder class client next) place matrix log e h = rw e (append-nil (ending text place))
-  end-served r ill place matrix log e h = rw e (append-nil (ending text place))
-  end-served r (request kind login o next) place matrix log e h = let on = ahead (request kind login o next) place e in absurd (omega (arith, on .0, on .1))
+  end-served r (loginsLine n next) place matrix log e h = rw e (append-nil (ending text place))
+  end-served r (folderLine class client next) place matrix log e h = rw e (append-nil (ending text place))
+  end-served r illLine place matrix log e h = rw e (append-nil (ending text place))
+  end-served r (requestLine kind login o next) place matrix log e h = let on = ahead (requestLine kind login o next) place e in absurd (omega (arith, on .0, on .1))
 
-  line-served : (r : Register) (k : ℕ) → Served r k → (item : Item) (place : ℕ) (matrix : List ℕ) (log : Log) → lineAt text place ≡ item
+  line-served : (r : Register) (k : ℕ) → Served r k → (line : Line) (place : ℕ) (matrix : List ℕ) (log : Log) → lineAt text place ≡ line
       → length text ≤ place + suc k
       → plainBy (suc (suc k)) text r place matrix log
       ≡ linesText (session r matrix log (askedBy (suc k) text place .requests) .lines) ++ ending text (askedBy (suc k) text place .place)
   unfolding plainBy stepped askedBy session linesText
-  line-served r k ih (logins n next) place matrix log e h = rw e (append-nil (ending text place))
-  line-served r k ih (folder class client next) place matrix log e h = rw e (append-nil (ending text place))
-  line-served r k ih ill place matrix log e h = rw e (append-nil (ending text place))
-  line-served r k ih (request kind login o next) place matrix log e h =
+  line-served r k ih (loginsLine n next) place matrix log e h = rw e (append-nil (ending text place))
+  line-served r k ih (folderLine class client next) place matrix log e h = rw e (append-nil (ending text place))
+  line-served r k ih illLine place matrix log e h = rw e (append-nil (ending text place))
+  line-served r k ih (requestLine kind login o next) place matrix log e h =
       let x : Outcome = outcome r matrix (session.request kind login o) log in
-      let on = ahead (request kind login o next) place e in
+      let on = ahead (requestLine kind login o next) place e in
       let rest = ih next (x .matrix) (x .log) (omega (arith, on .0)) in
       rw e (ap (λ more. lineText (answerLine log x) ++ more) rest ∙ sym (append-assoc (lineText (answerLine log x)) _ _))
 
@@ -157,12 +148,12 @@ module _ (text : List ℕ)
       rw e (checked-whole (eqb (registerAnswer r .number) 0) r (f .place) refl (rw e at h))
   filed-whole false p f e h = rw e (closed-whole text (badLine (lineNumber text (f .place))) (rw e at h))
 
-  first-whole : (item : Item) → length (firstOn item text .text) ≤ 4096 → runOf text (firstOn item text) ≡ firstThen item text
-  first-whole (logins p next) h =
+  first-whole : (line : Line) → length (firstOn line text .text) ≤ 4096 → runOf text (firstOn line text) ≡ firstThen line text
+  first-whole (loginsLine p next) h =
       let f = filedAt text next in filed-whole (isRequest (lineAt text (f .place)) || leb (length text) (f .place)) p f refl h
-  first-whole (folder class client next) h = closed-whole text (badLine 1) h
-  first-whole (request kind login o next) h = closed-whole text (badLine 1) h
-  first-whole ill h = closed-whole text (badLine 1) h
+  first-whole (folderLine class client next) h = closed-whole text (badLine 1) h
+  first-whole (requestLine kind login o next) h = closed-whole text (badLine 1) h
+  first-whole illLine h = closed-whole text (badLine 1) h
 
 output-whole : (text : List ℕ) (b : Bool) → ltb 65536 (length text) ≡ b → length (opened text .text) ≤ 4096 → run text ≡ output text
 unfolding run opened output

@@ -1,13 +1,10 @@
 -- Laws of the opening: what the register's check makes of it.
-use Prim.Native.Nat.{ℕ, _-_, _≤_, _<_}
-use native.Mathlib.Nat.{sub-zero}
-use native.Mathlib.Omega.{arith}
+use Prim.Native.Nat.{ℕ, _<_}
 use mathlib.Core.Path.{_≡_, refl}
 use mathlib.Core.Bool.{false, and-false}
 use mathlib.Core.List.{List, [], _∷_}
 use lib.Dec.{eqb}
-use lib.ListN.{length, take}
-use lib.Seq.{sets, sets-eq, take-append-seam}
+use lib.ListN.{length}
 use borrow.Author.Tests.{lt-leb}
 use Rattle.vocabulary.specs.Answer.{answer, judge}
 use Rattle.register.specs.declared.Verdict.{Verdict}
@@ -29,7 +26,3 @@ refused Accepted other = absurd (miss (1 ∷ 2 ∷ 3 ∷ []) 0 tt other)
 refused OutOfRange other = refl
 refused (LoneZero f) other = refl
 refused (TwoClasses f g) other = refl
-
--- What was stored at a buffer's start is a part of it.
-pub stored-part : (buffer list out : List ℕ) (n : ℕ) → length list ≤ length buffer → out ≡ sets buffer 0 list → n ≡ length list → take (n - 0) out ≡ list
-stored-part buffer list out n h e count = rw (sub-zero, count, e, sets-eq list buffer 0 (omega arith), take-append-seam)

@@ -8,14 +8,10 @@ use Rattle.register.specs.Register.{Register, registerOf}
 use Rattle.policy.specs.Outcome.{Log}
 use Rattle.policy.specs.Session.{newLog}
 use Rattle.monitor.specs.Reply.{logOf}
-use Rattle.desk_core.specs.declared.Text.{Text}
+use Rattle.desk_print.specs.Text.{shown}
 use Rattle.desk_core.specs.declared.Opening.{Opening}
 use Rattle.desk_core.specs.Output.{output}
 use Rattle.desk_core.specs.Step.{opened, openingOf, stepped, Left, leftBy}
-
--- What the program writes of a text that is handed back.
-abbrev pub shown : Text → List ℕ
-shown text = take (text .len) (text .bytes)
 
 -- What steps print, one after the other while the run goes on, each with the place, the matrix and the log that the one before left.
 unfoldable pub stepsBy : (fuel : ℕ) → List ℕ → Register → (place : ℕ) → (matrix : List ℕ) → Log → List ℕ

@@ -1,7 +1,8 @@
-pub mod Text
-pub mod Lines
+-- The rules:
 pub mod Output
-pub mod Step
+-- Claims:
 pub mod Joined
-pub mod Reads
+-- Internal:
+pub mod Step
+pub mod Heading
 pub mod Recorded

@@ -6,10 +6,10 @@ use lib.Dec.{eqb, leb, ltb}
 use lib.ListN.{length, replicate}
 use Rattle.register.specs.Register.{Register, registerOf, folders, registerAnswer}
 use Rattle.policy.specs.Outcome.{Request}
-use Rattle.policy.specs.Session.{newLog, session}
+use Rattle.policy.specs.Session.{AnswerLine, serialLine, dashLine, newLog, session}
 use Rattle.policy.specs.Session as session
-use Rattle.desk_core.specs.Lines.{Item, logins, folder, request, ill, lineAt, lineNumber}
-use Rattle.desk_core.specs.Text.{inputTooLong, badLine, badRegister, linesText}
+use Rattle.desk_lines.specs.Lines.{Line, loginsLine, folderLine, requestLine, illLine, lineAt, lineNumber}
+use Rattle.desk_print.specs.Text.{inputTooLong, badLine, badRegister, serialText, dashText}
 
 -- ---- the folders
 
@@ -28,11 +28,11 @@ filed classes clients place =
     }
 
 -- A folder's line is put before the folders that follow; any other line ends them.
-abbrev pub filedOn : Item → ℕ → (ℕ → Filed) → Filed
-filedOn (folder class client next) place more = filed (class ∷ more next .classes) (client ∷ more next .clients) (more next .place)
-filedOn (logins n next) place more = filed [] [] place
-filedOn (request kind login o next) place more = filed [] [] place
-filedOn ill place more = filed [] [] place
+abbrev pub filedOn : Line → ℕ → (ℕ → Filed) → Filed
+filedOn (folderLine class client next) place more = filed (class ∷ more next .classes) (client ∷ more next .clients) (more next .place)
+filedOn (loginsLine n next) place more = filed [] [] place
+filedOn (requestLine kind login o next) place more = filed [] [] place
+filedOn illLine place more = filed [] [] place
 
 -- The folders from a place on. Fuel that is the text's length is enough, since every line has bytes.
 unfoldable pub filedBy : (fuel : ℕ) → List ℕ → ℕ → Filed
@@ -57,11 +57,11 @@ asked requests place =
     }
 
 -- A request's line is put before the requests that follow; any other line ends them.
-abbrev pub askedOn : Item → ℕ → (ℕ → Asked) → Asked
-askedOn (request kind login o next) place more = asked (session.request kind login o ∷ more next .requests) (more next .place)
-askedOn (logins n next) place more = asked [] place
-askedOn (folder class client next) place more = asked [] place
-askedOn ill place more = asked [] place
+abbrev pub askedOn : Line → ℕ → (ℕ → Asked) → Asked
+askedOn (requestLine kind login o next) place more = asked (session.request kind login o ∷ more next .requests) (more next .place)
+askedOn (loginsLine n next) place more = asked [] place
+askedOn (folderLine class client next) place more = asked [] place
+askedOn illLine place more = asked [] place
 
 -- The requests from a place on.
 unfoldable pub askedBy : (fuel : ℕ) → List ℕ → ℕ → Asked
@@ -72,6 +72,15 @@ unfoldable pub askedAt : List ℕ → ℕ → Asked
 askedAt text place = askedBy (length text) text place
 
 -- ---- the output
+
+-- A request's line, and the lines of requests.
+abbrev pub lineText : AnswerLine → List ℕ
+lineText (serialLine serial number list) = serialText serial number list
+lineText (dashLine number) = dashText number
+
+unfoldable pub linesText : List AnswerLine → List ℕ
+linesText [] = []
+linesText (line ∷ lines) = lineText line ++ linesText lines
 
 -- What ends the run at a place: nothing at the input's end; else a line that is ill-formed or misplaced there.
 unfoldable pub ending : List ℕ → ℕ → List ℕ
@@ -88,11 +97,11 @@ unfoldable pub checkedThen : Register → List ℕ → List ℕ
 checkedThen r rest = cond (eqb (registerAnswer r .number) 0) rest (badRegister (registerAnswer r))
 
 -- Whether a line is a request.
-abbrev pub isRequest : Item → Bool
-isRequest (request kind login o next) = true
-isRequest (logins n next) = false
-isRequest (folder class client next) = false
-isRequest ill = false
+abbrev pub isRequest : Line → Bool
+isRequest (requestLine kind login o next) = true
+isRequest (loginsLine n next) = false
+isRequest (folderLine class client next) = false
+isRequest illLine = false
 
 -- After the folders: 'the register is checked at the first request or at the end', and the requests follow; any other line is ill-formed or
 -- misplaced.
@@ -103,11 +112,11 @@ filedThen p text f =
     (badLine (lineNumber text (f .place)))
 
 -- 'First `P n`.'
-abbrev pub firstThen : Item → List ℕ → List ℕ
-firstThen (logins p next) text = filedThen p text (filedAt text next)
-firstThen (folder class client next) text = badLine 1
-firstThen (request kind login o next) text = badLine 1
-firstThen ill text = badLine 1
+abbrev pub firstThen : Line → List ℕ → List ℕ
+firstThen (loginsLine p next) text = filedThen p text (filedAt text next)
+firstThen (folderLine class client next) text = badLine 1
+firstThen (requestLine kind login o next) text = badLine 1
+firstThen illLine text = badLine 1
 
 -- The whole output. 'At most 65,536 bytes (else it prints `input 41`).'
 unfoldable pub output : List ℕ → List ℕ

@@ -1,5 +1,5 @@
--- The output in steps: what is printed before the first request, and what each request line prints. `Joined.antt` says that together
--- they print the whole output.
+-- Internal: the output in steps, what is printed before the first request and what each request line prints. No rule of document 01 stands
+-- here: `Joined.antt` says that together the steps print the whole output.
 use Prim.Native.Nat.{ℕ}
 use mathlib.Core.Bool.{Bool, true, false, cond, _||_}
 use mathlib.Core.List.{List, []}
@@ -10,20 +10,12 @@ use Rattle.register.specs.Register.{Register, registerOf, registerAnswer}
 use Rattle.policy.specs.Outcome.{Log, Outcome, outcome}
 use Rattle.policy.specs.Session.{answerLine}
 use Rattle.policy.specs.Session as session
-use Rattle.desk_core.specs.declared.Text.{Text}
+use Rattle.desk_print.specs.declared.Text.{Text}
 use Rattle.desk_core.specs.declared.Opening.{Opening}
 use Rattle.desk_core.specs.declared.Progress.{Progress}
-use Rattle.desk_core.specs.Lines.{Item, logins, folder, request, ill, lineAt, lineNumber}
-use Rattle.desk_core.specs.Text.{inputTooLong, badLine, badRegister, lineText}
-use Rattle.desk_core.specs.Output.{Filed, filedAt, ending, isRequest}
-
--- A printed text as it is handed back: its bytes from the start of the buffer, zeros after them, and how many they are.
-unfoldable pub textOf : List ℕ → Text
-textOf bytes =
-    record {
-      bytes = sets (replicate 4096 0) 0 bytes;
-      len = length bytes;
-    }
+use Rattle.desk_lines.specs.Lines.{Line, loginsLine, folderLine, requestLine, illLine, lineAt, lineNumber}
+use Rattle.desk_print.specs.Text.{inputTooLong, badLine, badRegister, textOf}
+use Rattle.desk_core.specs.Output.{Filed, filedAt, lineText, ending, isRequest}
 
 -- ---- the opening
 
@@ -62,11 +54,11 @@ openedOn p text f =
     (openedWith (registerOf p (f .classes) (f .clients)) (f .place))
     (closedWith (badLine (lineNumber text (f .place))))
 
-abbrev pub firstOn : Item → List ℕ → Opened
-firstOn (logins p next) text = openedOn p text (filedAt text next)
-firstOn (folder class client next) text = closedWith (badLine 1)
-firstOn (request kind login o next) text = closedWith (badLine 1)
-firstOn ill text = closedWith (badLine 1)
+abbrev pub firstOn : Line → List ℕ → Opened
+firstOn (loginsLine p next) text = openedOn p text (filedAt text next)
+firstOn (folderLine class client next) text = closedWith (badLine 1)
+firstOn (requestLine kind login o next) text = closedWith (badLine 1)
+firstOn illLine text = closedWith (badLine 1)
 
 unfoldable pub opened : List ℕ → Opened
 opened text = cond (ltb 65536 (length text)) (closedWith inputTooLong) (firstOn (lineAt text 0) text)
@@ -119,8 +111,8 @@ over text place matrix log =
     }
 
 -- A request line prints its line and goes on after it; anything else, or the end, ends the run.
-abbrev pub steppedOn : Item → List ℕ → Register → (place : ℕ) → (matrix : List ℕ) → Log → Stepped
-steppedOn (request kind login o next) text r place matrix log =
+abbrev pub steppedOn : Line → List ℕ → Register → (place : ℕ) → (matrix : List ℕ) → Log → Stepped
+steppedOn (requestLine kind login o next) text r place matrix log =
     let x : Outcome = outcome r matrix (session.request kind login o) log in
     record {
       text = lineText (answerLine log x);
@@ -129,9 +121,9 @@ steppedOn (request kind login o next) text r place matrix log =
       matrix = x .matrix;
       log = x .log;
     }
-steppedOn (logins n next) text r place matrix log = over text place matrix log
-steppedOn (folder class client next) text r place matrix log = over text place matrix log
-steppedOn ill text r place matrix log = over text place matrix log
+steppedOn (loginsLine n next) text r place matrix log = over text place matrix log
+steppedOn (folderLine class client next) text r place matrix log = over text place matrix log
+steppedOn illLine text r place matrix log = over text place matrix log
 
 unfoldable pub stepped : List ℕ → Register → (place : ℕ) → (matrix : List ℕ) → Log → Stepped
 stepped text r place matrix log = steppedOn (lineAt text place) text r place matrix log
@@ -141,6 +133,14 @@ pub record Left : Type 0 where
   pub step : Progress
   pub matrix : List ℕ
   pub log : List ℕ
+
+abbrev pub left : Progress → List ℕ → List ℕ → Left
+left step matrix log =
+    record {
+      step = step;
+      matrix = matrix;
+      log = log;
+    }
 
 abbrev pub leftBy : Stepped → Left
 leftBy x =

@@ -1,21 +1,18 @@
 // The lines before the requests.
 use crate::Opening;
-use crate::Text;
-use crate::lines;
-use crate::lines::Line;
-use crate::printing;
+use desk_lines::Line;
+use desk_print::Text;
 use register::Verdict;
-ghost use Prim.Native.Nat.{ℕ};
 ghost use mathlib.Core.Path.{_≡_};
 ghost use mathlib.Core.Bool.{_||_};
-ghost use mathlib.Core.List.{List};
 ghost use lib.Dec.{leb};
-ghost use lib.ListN.{length, replicate, set};
-ghost use lib.Seq.{sets};
+ghost use lib.ListN.{length, set};
 ghost use Rattle.register.specs.Register.{registerOf};
-ghost use Rattle.desk_core.specs.Lines.{lineAt};
-ghost use Rattle.desk_core.specs.Output.{filedAt, isRequest, ending};
-ghost use Rattle.desk_core.specs.Step.{closing, openedWith, openedOn, firstOn, openingOf, textOf};
+ghost use Rattle.desk_lines.specs.Lines.{lineAt};
+ghost use Rattle.desk_core.specs.Output.{Filed, filedAt, isRequest, ending};
+ghost use Rattle.desk_print.specs.Text.{textOf};
+ghost use Rattle.desk_core.specs.Heading.{Kept, stored, storedIn};
+ghost use Rattle.desk_core.specs.Step.{closing, openedWith, openedOn, firstOn, openingOf};
 
 // How many folders were filed, and the place after their lines.
 struct Filing {
@@ -34,19 +31,19 @@ fn store(list: &mut [u16], folder: usize, label: u16)
 
 // Files the folders from a place on. What the walk has stored are the folders whose lines it has passed.
 fn file(text: &[u8], place: usize, classes: &mut [u16], clients: &mut [u16]) -> Filing
-    ensures { λ r. ⌜ (now (classes .exit) ≡ sets (now (classes .entry)) 0 (filedAt (now (text .entry)) place .classes)) × (now (clients .exit) ≡ sets (now (clients .entry)) 0 (filedAt (now (text .entry)) place .clients)) × (r .folders ≡ length (filedAt (now (text .entry)) place .classes)) × (r .place ≡ filedAt (now (text .entry)) place .place) ⌝ }
+    ensures { λ r. ⌜ stored r (now (classes .exit)) (now (clients .exit)) ≡ storedIn (now (classes .entry)) (now (clients .entry)) (filedAt (now (text .entry)) place) ⌝ }
 {
     let mut folders: usize = 0;
     let mut at = place;
     loop {
-        match lines::read_line(text, at) {
+        match desk_lines::read_line(text, at) {
             Line::Folder {
                 class,
                 client,
                 next,
             } => {
-                store(classes, folders, class);
-                store(clients, folders, client);
+                store(classes, folders, class.0);
+                store(clients, folders, client.0);
                 folders += 1;
                 at = next;
             }
@@ -77,16 +74,16 @@ pub(crate) fn closed(text: Text) -> Opening
 
 // The register's check, at the place of the first request or at the end.
 fn checked(logins: u16, filing: Filing, classes: [u16; 512], clients: [u16; 512]) -> Opening
-    ensures { λ r. ⌜ ((cs ds : List ℕ) → length ds ≡ length cs → filing .folders ≡ length cs → classes ≡ sets (replicate 512 0) 0 cs → clients ≡ sets (replicate 512 0) 0 ds → r ≡ openingOf (openedWith (registerOf logins cs ds) (filing .place))) ⌝ }
+    ensures { λ r. ⌜ ((f : Filed) → Kept f (stored filing classes clients) → r ≡ openingOf (openedWith (registerOf logins (f .classes) (f .clients)) (f .place))) ⌝ }
 {
     let folders = filing.folders;
     if 512 < folders {
-        return closed(printing::bad_register(Verdict::OutOfRange));
+        return closed(desk_print::bad_register(Verdict::OutOfRange));
     }
     let verdict = register::check(logins as usize, &classes[0..folders], &clients[0..folders]);
     match verdict {
         Verdict::Accepted => Opening {
-            text: printing::nothing(),
+            text: desk_print::nothing(),
             onward: true,
             logins: logins as usize,
             folders: folders,
@@ -94,7 +91,7 @@ fn checked(logins: u16, filing: Filing, classes: [u16; 512], clients: [u16; 512]
             clients: clients,
             place: filing.place,
         },
-        _ => closed(printing::bad_register(verdict)),
+        _ => closed(desk_print::bad_register(verdict)),
     }
 }
 
@@ -102,13 +99,8 @@ fn checked(logins: u16, filing: Filing, classes: [u16; 512], clients: [u16; 512]
 fn filing_ends(text: &[u8], place: usize) -> bool
     ensures { λ r. ⌜ r ≡ isRequest (lineAt (now (text .entry)) place) || leb (length (now (text .entry))) place ⌝ }
 {
-    match lines::read_line(text, place) {
-        Line::Request {
-            kind: _,
-            login: _,
-            folder: _,
-            next: _,
-        } => true,
+    match desk_lines::read_line(text, place) {
+        Line::Request { asked: _, next: _ } => true,
         _ => text.len() <= place,
     }
 }
@@ -118,9 +110,9 @@ pub(crate) fn ending(text: &[u8], place: usize) -> Text
     ensures { λ r. ⌜ r ≡ textOf (ending (now (text .entry)) place) ⌝ }
 {
     if text.len() <= place {
-        return printing::nothing();
+        return desk_print::nothing();
     }
-    printing::bad_line(lines::line_number(text, place))
+    desk_print::bad_line(desk_lines::line_number(text, place))
 }
 
 // From the folders' lines on.
@@ -141,8 +133,8 @@ fn from_folders(text: &[u8], logins: u16, place: usize) -> Opening
 pub(crate) fn from_first(text: &[u8]) -> Opening
     ensures { λ r. ⌜ r ≡ openingOf (firstOn (lineAt (now (text .entry)) 0) (now (text .entry))) ⌝ }
 {
-    match lines::read_line(text, 0) {
+    match desk_lines::read_line(text, 0) {
         Line::Logins(n, next) => from_folders(text, n, next),
-        _ => closed(printing::bad_line(1)),
+        _ => closed(desk_print::bad_line(1)),
     }
 }

@@ -1,23 +1,14 @@
 // The desk's text interface over the monitor (document 01, 'The desk program'). The output is printed in steps: `open` takes the input up to
 // its first request, and `step` one line after the other from there.
-use ids::FolderNo;
-use ids::LoginNo;
-use lines::Line;
+use desk_lines::Line;
+use desk_print::Text;
 ghost use mathlib.Core.Path.{_≡_};
-ghost use Rattle.register.specs.Register.{registerOf};
+ghost use Rattle.register.specs.Lent.{lent};
 ghost use Rattle.monitor.specs.Reply.{logOf};
-ghost use Rattle.desk_core.specs.Step.{opened, openingOf, stepped, leftBy};
+ghost use Rattle.desk_core.specs.Step.{opened, openingOf, left, leftBy, stepped};
 
-mod lines; // a line of the input, read
 mod heading; // the lines before the requests
-mod printing; // numbers and lines, printed
 mod serving; // a request's line
-
-// A printed text: its bytes from the start of the buffer, zeros after them.
-pub struct Text {
-    pub bytes: [u8; 4096],
-    pub len: usize,
-}
 
 // The input up to its first request, or up to its end: what is printed of it, and, if the run goes on, the register and the place after it.
 pub struct Opening {
@@ -44,7 +35,7 @@ pub fn open(text: &[u8]) -> Opening
     ensures { λ r. ⌜ r ≡ openingOf (opened (now (text .entry))) ⌝ }
 {
     if 65_536 < text.len() {
-        return heading::closed(printing::input_too_long());
+        return heading::closed(desk_print::input_too_long());
     }
     heading::from_first(text)
 }
@@ -62,23 +53,20 @@ pub fn step(
     end: usize,
     serial: u16,
 ) -> Progress
-    ensures { λ r. ⌜ record { step = r; matrix = now (matrix .exit); log = now (log .exit) } ≡ leftBy (stepped (now (text .entry)) (registerOf logins (now (classes .entry)) (now (clients .entry))) place (now (matrix .entry)) (logOf (now (log .entry)) end serial)) ⌝ }
+    ensures { λ r. ⌜ left r (now (matrix .exit)) (now (log .exit)) ≡ leftBy (stepped (now (text .entry)) (lent logins classes clients) place (now (matrix .entry)) (logOf (now (log .entry)) end serial)) ⌝ }
 {
-    match lines::read_line(text, place) {
-        Line::Request {
-            kind,
-            login,
-            folder,
-            next,
-        } => {
+    match desk_lines::read_line(text, place) {
+        Line::Request { asked, next } => {
+            let login = asked.login;
+            let folder = asked.folder;
             let reply = monitor::request(
                 logins,
                 classes,
                 clients,
                 matrix,
-                LoginNo(login),
-                FolderNo(folder),
-                kind,
+                login,
+                folder,
+                asked.kind,
                 log,
                 end,
                 serial,

@@ -1,22 +1,20 @@
 -- `step` meets its contract: a request's reply is printed as its line; anything else ends the run.
-use native.Mathlib.Omega.{arith}
-use mathlib.Core.Path.{sym, ap, _∙_}
-use borrow.Author.Needs.{needs}
-use Rattle.monitor.specs.Reply.{logOf}
-use Rattle.register.specs.Register.{registerOf}
-use Rattle.desk_core.specs.Reads.{lineItem}
-use Rattle.desk_core.proofs.Arms.{no-request}
 use Rattle.desk_core.proofs.Stepped.{stepped-over, stepped-request}
+use Rattle.desk_core.proofs.Arms.{no-request}
+use Rattle.desk_lines.specs.Lines.{lineOf}
+use Rattle.register.specs.Register.{registerOf}
+use Rattle.monitor.specs.Reply.{logOf}
+use mathlib.Core.Path.{sym, ap, _∙_}
+use native.Mathlib.Omega.{arith}
+use borrow.Author.Needs.{needs}
 use Rattle.desk_core.proofs.step.Statement.{statement}
 use Rattle.desk_core.proofs.step.Tie as tie
-
--- `step` meets its contract: a request's reply is printed as its line; anything else ends the run.
 
 read-line-requires : tie.Need-read-line-requires
 read-line-requires c κs = search needs
 
-enum-known-kind : tie.Need-enum-known-kind
-enum-known-kind c = search needs
+enum-known-asked : tie.Need-enum-known-asked
+enum-known-asked c = search needs
 
 request-requires : tie.Need-request-requires
 request-requires c κs = search needs
@@ -35,8 +33,8 @@ same-length-2 c = search needs
 
 returns : tie.Need-returns
 returns c =
-    let a = c .before .before .before .before .before .before .before .before .before .before .before .before .before .before .before .before .before .before .args in
-    stepped-request (a .text .now) (registerOf (a .logins) (a .classes .now) (a .clients .now)) (a .place) (a .matrix .now) (logOf (a .log .now) (a .end) (a .serial)) _ _ _ _ (sym (c .before .before .before .before .before .before .before .before .before .before .before .before .read-line .ensures) ∙ ap lineItem (c .before .before .before .before .before .before .before .before .before .before .kind .given .1)) (omega (arith, c .before .before .before .before .before .before .before .before .before .before .before .before .before .before .before .before .before .before .fits .serial .fits)) (c .before .before .before .before .before .before .request .result) _ _ _ (c .before .before .before .before .before .before .request .ensures) (c .answer-line .ensures)
+    let a = c .before .before .before .before .before .before .before .before .before .before .before .before .before .before .before .before .before .before .before .before .args in
+    stepped-request (a .text .now) (registerOf (a .logins) (a .classes .now) (a .clients .now)) (a .place) (a .matrix .now) (logOf (a .log .now) (a .end) (a .serial)) _ _ _ _ (sym (c .before .before .before .before .before .before .before .before .before .before .before .before .before .before .read-line .ensures) ∙ ap lineOf (c .before .before .before .before .before .before .before .before .before .before .before .before .asked .given .1)) (omega (arith, c .before .before .before .before .before .before .before .before .before .before .before .before .before .before .before .before .before .before .before .before .fits .serial .fits)) (c .before .before .before .before .before .before .request .result) _ _ _ (c .before .before .before .before .before .before .request .ensures) (c .answer-line .ensures)
 
 returns-2 : tie.Need-returns-2
 returns-2 c =
@@ -48,7 +46,7 @@ step-spec =
     tie.close
     (tie.spec
     read-line-requires
-    enum-known-kind
+    enum-known-asked
     request-requires
     answer-line-requires
     ending-requires

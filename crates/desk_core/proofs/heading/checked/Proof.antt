@@ -1,28 +1,30 @@
 -- `checked` meets its contract: too many folders are refused at once; else the register's check speaks.
-use Prim.Native.Nat.{ℕ, _≤_}
+use Prim.Native.Nat.{_≤_}
 use native.Mathlib.Omega.{arith}
-use mathlib.Core.List.{List}
 use mathlib.Core.Path.{_≡_, sym, ap, _∙_}
 use lib.ListN.{length, replicate}
-use lib.Seq.{sets}
 use borrow.Author.Needs.{needs}
 use Rattle.register.specs.Verdict.{verdictAnswer}
 use Rattle.register.specs.Register.{registerOf, registerAnswer}
+use Rattle.desk_print.proofs.Printed.{part-text}
+use Rattle.desk_core.specs.Output.{Filed}
+use Rattle.desk_core.specs.Heading.{Stored, stored, Kept}
 use Rattle.desk_core.specs.Step.{openedWith}
-use Rattle.desk_core.proofs.Opened.{register-over, refused, stored-part}
+use Rattle.desk_core.proofs.Opened.{register-over, refused}
 use Rattle.desk_core.proofs.heading.checked.Tie as tie
 use Rattle.desk_core.proofs.heading.checked.Statement.{statement}
 
 -- the check is of the folders that are kept
-verdict : (c : tie.After-check) (cs ds : List ℕ) → length ds ≡ length cs
-    → c .before .before .before .before .before .before .args .filing .folders ≡ length cs
-    → c .before .before .before .before .before .before .args .t3 ≡ sets (replicate 512 0) 0 cs
-    → c .before .before .before .before .before .before .args .t4 ≡ sets (replicate 512 0) 0 ds
-    → verdictAnswer (c .check .result) ≡ registerAnswer (registerOf (c .before .before .before .before .before .before .args .logins) cs ds)
-verdict c cs ds even count kept kept₂ =
+verdict : (c : tie.After-check) (f : Filed) → Kept f (stored (c .before .before .before .before .before .before .args .filing) (c .before .before .before .before .before .before .args .t3) (c .before .before .before .before .before .before .args .t4))
+    → verdictAnswer (c .check .result) ≡ registerAnswer (registerOf (c .before .before .before .before .before .before .args .logins) (f .classes) (f .clients))
+verdict c f k =
     let a = c .before .before .before .before .before .before .args in
-    let few : length cs ≤ 512 = omega arith in
-    rw (stored-part (replicate 512 0) cs (a .t3) (a .filing .folders) (omega arith) kept count, stored-part (replicate 512 0) ds (a .t4) (a .filing .folders) (omega arith) kept₂ (count ∙ sym even)) at (c .check .ensures)
+    let count : a .filing .folders ≡ length (f .classes) = ap (λ (s : Stored). s .filing .folders) (k .kept) in
+    let few : length (f .classes) ≤ 512 = omega arith in
+    rw (
+      part-text (replicate 512 0) (f .classes) (a .t3) (a .filing .folders) few (ap (λ (s : Stored). s .classes) (k .kept)) count,
+      part-text (replicate 512 0) (f .clients) (a .t4) (a .filing .folders) (omega (arith, k .even)) (ap (λ (s : Stored). s .clients) (k .kept)) (count ∙ sym (k .even)),
+    ) at (c .check .ensures)
 
 bad-register-requires : tie.Need-bad-register-requires
 bad-register-requires c κs = search needs
@@ -33,7 +35,9 @@ closed-requires c κs = search needs
 returns : tie.Need-returns
 unfolding openedWith
 returns c =
-    λ cs ds even count kept kept₂. rw (c .closed .ensures, c .before .bad-register .ensures, register-over (c .before .before .before .args .logins) cs ds (omega arith))
+    λ f k.
+    let count : c .before .before .before .args .filing .folders ≡ length (f .classes) = ap (λ (s : Stored). s .filing .folders) (k .kept) in
+    rw (c .closed .ensures, c .before .bad-register .ensures, register-over (c .before .before .before .args .logins) (f .classes) (f .clients) (omega arith))
 
 sub-check : tie.Need-sub-check
 sub-check c = search needs
@@ -71,15 +75,22 @@ closed-requires-2 c κs = search needs
 returns-2 : tie.Need-returns-2
 unfolding openedWith
 returns-2 c =
-    λ cs ds even count kept kept₂.
-    let accepted = sym (verdict (c .before .before .before) cs ds even count kept kept₂) ∙ ap verdictAnswer (c .before .enum-told .given .1) in
-    rw (c .nothing .ensures, accepted, count, kept, kept₂)
+    λ f k.
+    let accepted = sym (verdict (c .before .before .before) f k) ∙ ap verdictAnswer (c .before .enum-told .given .1) in
+    rw (
+      c .nothing .ensures,
+      accepted,
+      ap (λ (s : Stored). s .filing .folders) (k .kept),
+      ap (λ (s : Stored). s .filing .place) (k .kept),
+      ap (λ (s : Stored). s .classes) (k .kept),
+      ap (λ (s : Stored). s .clients) (k .kept),
+    )
 
 returns-3 : tie.Need-returns-3
 unfolding openedWith
 returns-3 c =
-    λ cs ds even count kept kept₂.
-    rw (c .closed2 .ensures, c .before .bad-register2 .ensures, ← verdict (c .before .before .before) cs ds even count kept kept₂, refused (c .before .before .before .check .result) (c .before .before .match .keys2))
+    λ f k.
+    rw (c .closed2 .ensures, c .before .bad-register2 .ensures, ← verdict (c .before .before .before) f k, refused (c .before .before .before .check .result) (c .before .before .match .keys2))
 
 pub checked-spec : {M : Type 1} → statement M
 checked-spec =

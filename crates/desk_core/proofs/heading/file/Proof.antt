@@ -5,30 +5,29 @@ use mathlib.Core.Path.{_≡_, sym, ap, _∙_}
 use lib.ListN.{length}
 use borrow.Author.Needs.{needs}
 use Rattle.desk_core.specs.Output.{filedAt}
-use Rattle.desk_core.specs.Lines.{folder, lineAt}
-use Rattle.desk_core.specs.Reads.{lineItem}
-use Rattle.desk_core.proofs.Onward.{After, line-ahead}
+use Rattle.desk_lines.specs.Lines.{folderLine, lineAt, lineOf}
+use Rattle.desk_lines.proofs.Onward.{After, line-ahead}
 use Rattle.desk_core.proofs.Arms.{no-folder}
-use Rattle.desk_core.proofs.Filed.{Stored, stored-none, stored-more, stored-all, filed-on}
+use Rattle.desk_core.proofs.Filed.{Partway, partway-none, partway-more, partway-all, filed-on}
 use Rattle.desk_core.proofs.heading.file.Tie as tie
 use Rattle.desk_core.proofs.heading.file.Statement.{statement}
 
 abbrev Inv-loop : tie.InvT-loop
-Inv-loop text place classes₀ clients₀ folders₀ at₀ classes clients folders at = Stored text place classes₀ clients₀ classes clients folders at
+Inv-loop text place classes₀ clients₀ folders₀ at₀ classes clients folders at = Partway text place classes₀ clients₀ classes clients folders at
 
 abbrev μ-loop : tie.MeasureT-loop
 μ-loop text place classes₀ clients₀ folders₀ at₀ classes clients folders at = length text - at
 
 -- the line of a turn, which ends after its place
-line : (c : tie.After-class Inv-loop μ-loop) → lineAt (c .before .before .before .before .before .before .before .args .text .now) (c .before .before .before .loop .at) ≡ folder (c .class .given .0 .0) (c .class .given .0 .1 .0) (c .class .given .0 .1 .1 .0)
-line c = sym (c .before .before .read-line .ensures) ∙ ap lineItem (c .class .given .1)
+line : (c : tie.After-class Inv-loop μ-loop) → lineAt (c .before .before .before .before .before .before .before .args .text .now) (c .before .before .before .loop .at) ≡ folderLine (c .class .given .0 .0 .0) (c .class .given .0 .1 .0 .0) (c .class .given .0 .1 .1 .0)
+line c = sym (c .before .before .read-line .ensures) ∙ ap lineOf (c .class .given .1)
 
 ahead : (c : tie.After-class Inv-loop μ-loop) → After (c .before .before .before .before .before .before .before .args .text .now) (c .before .before .before .loop .at) (c .class .given .0 .1 .1 .0)
 ahead c = rw (line c) at (line-ahead (c .before .before .before .before .before .before .before .args .text .now) (c .before .before .before .loop .at))
 
 loop-holds : tie.Need-loop-holds Inv-loop μ-loop
 loop-holds c =
-    stored-none (c .before .before .before .args .text .now) (c .before .before .before .args .place) (c .before .before .before .args .classes .now) (c .before .before .before .args .clients .now)
+    partway-none (c .before .before .before .args .text .now) (c .before .before .before .args .place) (c .before .before .before .args .classes .now) (c .before .before .before .args .clients .now)
 
 read-line-requires : tie.Need-read-line-requires Inv-loop μ-loop
 read-line-requires c κs = search needs
@@ -52,7 +51,7 @@ loop-less c = omega (arith, ahead (c .before .before .before .before .before .be
 loop-again : tie.Need-loop-again Inv-loop μ-loop
 loop-again c =
     let a = c .before .before .before .before .before .before .before .before .before .before .before .before .before .before .before .before .args in
-    rw (c .before .before .before .before .before .before .store .ensures, c .before .before .store2 .ensures) (stored-more (a .text .now) (a .place) (a .classes .now) (a .clients .now) _ _ _ _ _ _ _ (c .before .before .before .before .before .before .before .before .before .before .before .before .loop .inv) (line (c .before .before .before .before .before .before .before .before .before)))
+    rw (c .before .before .before .before .before .before .store .ensures, c .before .before .store2 .ensures) (partway-more (a .text .now) (a .place) (a .classes .now) (a .clients .now) _ _ _ _ _ _ _ (c .before .before .before .before .before .before .before .before .before .before .before .before .loop .inv) (line (c .before .before .before .before .before .before .before .before .before)))
 
 same-length : tie.Need-same-length Inv-loop μ-loop
 same-length c = c .before .before .loop .inv .room
@@ -63,7 +62,7 @@ same-length-2 c = c .before .before .loop .inv .room₂
 returns : tie.Need-returns Inv-loop μ-loop
 returns c =
     let a = c .before .before .before .before .before .before .args in
-    stored-all (a .text .now) (a .place) (a .classes .now) (a .clients .now) _ _ _ _ (c .before .before .loop .inv) (filed-on (a .text .now) (c .before .before .loop .at) ∙ rw (← c .before .read-line .ensures) (no-folder (c .before .read-line .result) (c .before .before .loop .at) (filedAt (a .text .now)) (c .match .keys2)))
+    partway-all (a .text .now) (a .place) (a .classes .now) (a .clients .now) _ _ _ _ (c .before .before .loop .inv) (filed-on (a .text .now) (c .before .before .loop .at) ∙ rw (← c .before .read-line .ensures) (no-folder (c .before .read-line .result) (c .before .before .loop .at) (filedAt (a .text .now)) (c .match .keys2)))
 
 pub file-spec : {M : Type 1} → statement M
 file-spec =

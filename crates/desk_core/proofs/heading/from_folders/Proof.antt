@@ -1,11 +1,12 @@
 -- `from_folders` meets its contract: the folders, then what follows them.
-use mathlib.Core.Path.{_∙_, sym}
+use mathlib.Core.Path.{_∙_, sym, ap}
 use lib.ListN.{length}
 use lib.Dec.{leb}
 use borrow.Author.Needs.{needs}
 use Rattle.vocabulary.proofs.Bools.{neither}
 use Rattle.desk_core.specs.Output.{isRequest, filedAt, ending}
-use Rattle.desk_core.specs.Lines.{lineAt}
+use Rattle.desk_lines.specs.Lines.{lineAt}
+use Rattle.desk_core.specs.Heading.{Stored}
 use Rattle.desk_core.specs.Step.{openedOn}
 use Rattle.desk_core.proofs.Filed.{filed-even}
 use Rattle.desk_core.proofs.heading.from_folders.Tie as tie
@@ -30,9 +31,9 @@ returns : tie.Need-returns
 unfolding openedOn
 returns c =
     let a = c .before .before .before .before .before .before .before .before .before .args in
-    let f = filedAt (a .text .now) (a .place) in
     let e = c .before .before .before .before .before .file .ensures in
-    c .checked .ensures (f .classes) (f .clients) (filed-even (a .text .now) (a .place)) (e .2) (e .0) (e .1) ∙ rw (← e .3, ← c .before .before .filing-ends .ensures, c .before .if1 .taken)
+    let end = ap (λ (s : Stored). s .filing .place) e in
+    c .checked .ensures (filedAt (a .text .now) (a .place)) (record { even = filed-even (a .text .now) (a .place); kept = e }) ∙ rw (← end, ← c .before .before .filing-ends .ensures, c .before .if1 .taken)
 
 ending-requires : tie.Need-ending-requires
 ending-requires c κs = search needs
@@ -45,9 +46,9 @@ unfolding openedOn ending
 returns-2 c =
     let text = c .before .before .before .before .before .before .before .before .before .before .args .text .now in
     let end = c .before .before .before .before .before .before .file .result .place in
-    let e = c .before .before .before .before .before .before .file .ensures in
+    let there = ap (λ (s : Stored). s .filing .place) (c .before .before .before .before .before .before .file .ensures) in
     let tests = neither (isRequest (lineAt text end)) (leb (length text) end) (sym (c .before .before .before .filing-ends .ensures) ∙ c .before .before .if1 .left) in
-    rw (c .closed .ensures, c .before .ending .ensures, ← e .3, ← c .before .before .before .filing-ends .ensures, c .before .before .if1 .left, tests .1)
+    rw (c .closed .ensures, c .before .ending .ensures, ← there, ← c .before .before .before .filing-ends .ensures, c .before .before .if1 .left, tests .1)
 
 pub from-folders-spec : {M : Type 1} → statement M
 from-folders-spec =

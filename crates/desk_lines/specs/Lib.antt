@@ -1,0 +1,4 @@
+-- The rules:
+pub mod Lines
+-- Internal:
+pub mod Reads

@@ -1,0 +1,4 @@
+pub mod Decimal
+pub mod Spaced
+pub mod Printed
+pub mod Fits
