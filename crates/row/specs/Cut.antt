@@ -53,6 +53,7 @@ leftAt classes clients o folder kind f c = cellLeft c (labelAt classes clients f
 abbrev pub Blank : List ℕ → Type 0
 Blank list = (i : ℕ) → getD list i 0 ≡ 0
 
--- Numbers listed from the start of a blank array, n of them: a 0 put at the place n makes the array just that list.
-abbrev pub Listed : List ℕ → List ℕ → List ℕ → ℕ → Type 0
-Listed blank l list n = (set list n 0 ≡ sets blank 0 l) × (n ≡ length l)
+-- The numbers l, listed from the start of a blank array, n of them; the place after them may have any number yet.
+pub record Listed (blank l list : List ℕ) (n : ℕ) : Type 0 where
+  pub cleared : set list n 0 ≡ sets blank 0 l
+  pub counted : n ≡ length l

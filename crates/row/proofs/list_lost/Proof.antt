@@ -1,5 +1,5 @@
 -- `list_lost` meets its contract: what is at stake is lost where lists and folder fit and the kind revokes, and nothing elsewhere.
-use Rattle.row.proofs.Listed.{blank, listed-length}
+use Rattle.row.proofs.Listed.{blank, listed-length, listed-cleared}
 use Rattle.row.proofs.Cut.{fits-first, lost-stakes, lost-none}
 use Rattle.row.proofs.Fitting.{fits-are, folder-listed}
 use Rattle.row.specs.Row.{listOf}
@@ -24,14 +24,14 @@ list-stakes-requires c κs =
 
 slice-aggregate-clear-at : tie.Need-slice-aggregate-clear-at
 slice-aggregate-clear-at c =
-    ?
+    sym (listed-length (c .before .list-stakes .ensures))
 
 clear-at-requires : tie.Need-clear-at-requires
 clear-at-requires c κs = search needs
 
 returns : tie.Need-returns
 returns c =
-    ?
+    listed-cleared (c .before .before .before .list-stakes .ensures) (c .before .clear-at .ensures) (lost-stakes _ _ _ _ (c .before .before .before .before .before .before .before .before .fits2 .ensures) (c .before .before .before .before .before .before .before .revokes .ensures) (c .before .before .before .before .before .before .if1 .taken) _ (c .before .before .before .before .before .label-of .ensures))
 
 returns-2 : tie.Need-returns-2
 returns-2 c =

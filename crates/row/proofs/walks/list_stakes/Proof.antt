@@ -57,7 +57,7 @@ loop-less c = search needs
 loop-again : tie.Need-loop-again Inv-loop μ-loop
 loop-again c =
     let b = rw (c .before .before .label-at .ensures) at (c .before .at-stake .ensures) in
-    (omega arith, (omega (arith, c .one-if .ensures .1), rw (c .one-if .ensures .0, b) (listed-next _ (c .before .before .before .before .before .before .before .before .before .pre .2) (ofSortAt Sort.AtStake (c .before .before .before .before .before .before .before .before .before .args .row .now) (c .before .before .before .before .before .before .before .before .before .args .classes .now) (c .before .before .before .before .before .before .before .before .before .args .clients .now) (c .before .before .before .before .before .before .before .before .before .args .o)) (c .before .before .before .before .before .loop .list) (c .before .before .before .before .before .loop .n) (c .before .before .before .before .before .loop .f) (c .before .before .before .before .before .loop .inv .1 .1))))
+    (omega arith, (omega (arith, c .one-if .ensures .1), rw (c .one-if .ensures .0, b) (listed-next _ (c .before .before .before .before .before .before .before .before .before .pre .2) (ofSortAt Sort.AtStake (c .before .before .before .before .before .before .before .before .before .args .row .now) (c .before .before .before .before .before .before .before .before .before .args .classes .now) (c .before .before .before .before .before .before .before .before .before .args .clients .now) (c .before .before .before .before .before .before .before .before .before .args .o)) (c .before .before .before .before .before .loop .f) (c .before .before .before .before .before .loop .inv .1 .1))))
 
 returns : tie.Need-returns Inv-loop μ-loop
 returns c =
