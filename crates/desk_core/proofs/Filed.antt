@@ -7,7 +7,8 @@ use mathlib.Core.List.{List, [], _∷_}
 use lib.ListN.{length, set, length-set}
 use lib.Seq.{sets}
 use Rattle.desk_lines.specs.Lines.{Line, loginsLine, folderLine, requestLine, illLine, lineAt}
-use Rattle.desk_core.specs.Heading.{stored, storedIn}
+use Rattle.desk_core.specs.declared.heading.Filing.{Filing}
+use Rattle.desk_core.specs.Heading.{Stored, stored, storedIn}
 use Rattle.desk_core.specs.Output.{Filed, filed, filedOn, filedBy, filedAt}
 use Rattle.desk_lines.proofs.Onward.{Ahead, line-ahead, line-past}
 
@@ -51,6 +52,10 @@ filed-even text place = by (length text) place
     by (suc fuel) place = on (lineAt text place) place (filedBy fuel text) (by fuel)
 
 -- ---- the folders stored in two lists
+
+-- Where the lines of folders that are stored end.
+pub stored-end : (filing : Filing) (cs ds cs₀ ds₀ : List ℕ) (f : Filed) → stored filing cs ds ≡ storedIn cs₀ ds₀ f → filing .place ≡ f .place
+stored-end filing cs ds cs₀ ds₀ f e = ap (λ (s : Stored). s .filing .place) e
 
 module _ (text : List ℕ) (place : ℕ) (cs₀ ds₀ : List ℕ) where
   -- Some folders are stored and the line at a place is next: with the folders from there on, all are.

@@ -9,7 +9,7 @@ use lib.Dec.{eqb, leb, ltb}
 use lib.ListN.{length, take, length-take}
 use borrow.Author.Tests.{ltb-false}
 use Rattle.vocabulary.proofs.Bools.{true-or-false}
-use Rattle.register.specs.Register.{Register, registerOf, registerAnswer}
+use Rattle.register.specs.Register.{Register, registerAnswer}
 use Rattle.policy.specs.Outcome.{Request, Log, isLogged, outcome}
 use Rattle.policy.specs.Session.{answerLine}
 use Rattle.policy.specs.Session as session
@@ -19,7 +19,7 @@ use Rattle.desk_lines.specs.Lines.{Line, loginsLine, folderLine, requestLine, i
 use Rattle.desk_lines.proofs.Ended.{ended-most}
 use Rattle.desk_print.specs.Text.{badLine}
 use Rattle.desk_print.proofs.Fits.{input-too-long-fits, bad-line-fits, bad-register-fits, serial-fits, dash-fits}
-use Rattle.desk_core.specs.Output.{Filed, filedAt, lineText, ending, isRequest}
+use Rattle.desk_core.specs.Output.{Filed, filedAt, registerFiled, lineText, ending, isRequest}
 use Rattle.desk_core.specs.Step.{openedWith, openedOn, firstOn, opened, steppedOn, stepped}
 use Rattle.desk_core.proofs.Small.{rising-small, outcome-most}
 
@@ -80,7 +80,7 @@ opened-on-fits p text f h = by (true-or-false (isRequest (lineAt text (f .place)
   where
     by : ((isRequest (lineAt text (f .place)) || leb (length text) (f .place)) ≡ true) ⊎ ((isRequest (lineAt text (f .place)) || leb (length text) (f .place)) ≡ false)
         → length (openedOn p text f .text) ≤ 4096
-    by (inl e) = rw e (opened-with-fits (registerOf p (f .classes) (f .clients)) (f .place))
+    by (inl e) = rw e (opened-with-fits (registerFiled p f) (f .place))
     by (inr e) = rw e (line-number-fits text (f .place) h)
 
 first-fits : (line : Line) (text : List ℕ) → length text < 2 ^ 64 → length (firstOn line text .text) ≤ 4096

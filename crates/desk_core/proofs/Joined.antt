@@ -21,7 +21,7 @@ use Rattle.log_exact.proofs.WriterPasses.{unlogged-left}
 use Rattle.desk_lines.specs.Lines.{Line, loginsLine, folderLine, requestLine, illLine, lineAt, lineNumber}
 use Rattle.desk_print.specs.Text.{inputTooLong, badLine, badRegister, textOf, shown}
 use Rattle.desk_print.proofs.Printed.{taken, shown-text}
-use Rattle.desk_core.specs.Output.{Filed, filedAt, askedBy, askedAt, lineText, linesText, ending, isRequest, served, checkedThen, filedThen, firstThen, output}
+use Rattle.desk_core.specs.Output.{Filed, filedAt, registerFiled, askedBy, askedAt, lineText, linesText, ending, isRequest, served, checkedThen, filedThen, firstThen, output}
 use Rattle.desk_core.specs.Step.{Opened, opened, openedOn, openedWith, closedWith, firstOn, Stepped, stepped, openingOf}
 use Rattle.desk_core.specs.Joined.{stepsBy, run, Joined}
 use Rattle.desk_lines.proofs.Onward.{Ahead, line-ahead}
@@ -144,7 +144,7 @@ module _ (text : List ℕ)
       → length (openedOn p text f .text) ≤ 4096 → runOf text (openedOn p text f) ≡ filedThen p text f
   unfolding openedOn filedThen
   filed-whole true p f e h =
-      let r = registerOf p (f .classes) (f .clients) in
+      let r = registerFiled p f in
       rw e (checked-whole (eqb (registerAnswer r .number) 0) r (f .place) refl (rw e at h))
   filed-whole false p f e h = rw e (closed-whole text (badLine (lineNumber text (f .place))) (rw e at h))
 

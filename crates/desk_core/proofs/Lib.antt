@@ -1,6 +1,5 @@
-pub mod ListFrom
-pub mod RecordLine
-pub mod LoggedLine
+pub mod Recorded
+pub mod Answered
 pub mod Filed
 pub mod Arms
 pub mod Opened

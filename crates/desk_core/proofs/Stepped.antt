@@ -14,7 +14,7 @@ use Rattle.desk_lines.specs.Lines.{Line, loginsLine, folderLine, requestLine, i
 use Rattle.desk_core.specs.Output.{isRequest}
 use Rattle.desk_core.specs.Recorded.{answerText}
 use Rattle.desk_core.specs.Step.{over, steppedOn, stepped, left, leftBy}
-use Rattle.desk_core.proofs.LoggedLine.{answer-text}
+use Rattle.desk_core.proofs.Answered.{answer-text}
 
 module _ (text : List ℕ) (r : Register) (place : ℕ) (matrix : List ℕ) (log : Log) where
   over-on : (line : Line) → isRequest line ≡ false → steppedOn line text r place matrix log ≡ over text place matrix log

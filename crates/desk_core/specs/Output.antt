@@ -42,6 +42,10 @@ filedBy (suc fuel) text place = filedOn (lineAt text place) place (filedBy fuel 
 unfoldable pub filedAt : List ℕ → ℕ → Filed
 filedAt text place = filedBy (length text) text place
 
+-- The register of n logins and these folders.
+abbrev pub registerFiled : (n : ℕ) → Filed → Register
+registerFiled n f = registerOf n (f .classes) (f .clients)
+
 -- ---- the requests
 
 -- The requests that lines ask for, and the place after the last of these lines.
@@ -108,7 +112,7 @@ isRequest illLine = false
 unfoldable pub filedThen : (p : ℕ) → List ℕ → Filed → List ℕ
 filedThen p text f =
     cond (isRequest (lineAt text (f .place)) || leb (length text) (f .place))
-    (checkedThen (registerOf p (f .classes) (f .clients)) (served (registerOf p (f .classes) (f .clients)) text (f .place)))
+    (checkedThen (registerFiled p f) (served (registerFiled p f) text (f .place)))
     (badLine (lineNumber text (f .place)))
 
 -- 'First `P n`.'

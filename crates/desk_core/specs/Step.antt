@@ -15,7 +15,7 @@ use Rattle.desk_core.specs.declared.Opening.{Opening}
 use Rattle.desk_core.specs.declared.Progress.{Progress}
 use Rattle.desk_lines.specs.Lines.{Line, loginsLine, folderLine, requestLine, illLine, lineAt, lineNumber}
 use Rattle.desk_print.specs.Text.{inputTooLong, badLine, badRegister, textOf}
-use Rattle.desk_core.specs.Output.{Filed, filedAt, lineText, ending, isRequest}
+use Rattle.desk_core.specs.Output.{Filed, filedAt, registerFiled, lineText, ending, isRequest}
 
 -- ---- the opening
 
@@ -51,7 +51,7 @@ openedWith r place =
 unfoldable pub openedOn : (p : ℕ) → List ℕ → Filed → Opened
 openedOn p text f =
     cond (isRequest (lineAt text (f .place)) || leb (length text) (f .place))
-    (openedWith (registerOf p (f .classes) (f .clients)) (f .place))
+    (openedWith (registerFiled p f) (f .place))
     (closedWith (badLine (lineNumber text (f .place))))
 
 abbrev pub firstOn : Line → List ℕ → Opened

@@ -7,9 +7,8 @@ ghost use mathlib.Core.Path.{_≡_};
 ghost use mathlib.Core.Bool.{_||_};
 ghost use lib.Dec.{leb};
 ghost use lib.ListN.{length, set};
-ghost use Rattle.register.specs.Register.{registerOf};
 ghost use Rattle.desk_lines.specs.Lines.{lineAt};
-ghost use Rattle.desk_core.specs.Output.{Filed, filedAt, isRequest, ending};
+ghost use Rattle.desk_core.specs.Output.{Filed, filedAt, registerFiled, isRequest, ending};
 ghost use Rattle.desk_print.specs.Text.{textOf};
 ghost use Rattle.desk_core.specs.Heading.{Kept, stored, storedIn};
 ghost use Rattle.desk_core.specs.Step.{closing, openedWith, openedOn, firstOn, openingOf};
@@ -74,7 +73,7 @@ pub(crate) fn closed(text: Text) -> Opening
 
 // The register's check, at the place of the first request or at the end.
 fn checked(logins: u16, filing: Filing, classes: [u16; 512], clients: [u16; 512]) -> Opening
-    ensures { λ r. ⌜ ((f : Filed) → Kept f (stored filing classes clients) → r ≡ openingOf (openedWith (registerOf logins (f .classes) (f .clients)) (f .place))) ⌝ }
+    ensures { λ r. ⌜ ((f : Filed) → Kept f (stored filing classes clients) → r ≡ openingOf (openedWith (registerFiled logins f) (f .place))) ⌝ }
 {
     let folders = filing.folders;
     if 512 < folders {

@@ -1,14 +1,13 @@
 -- `from_folders` meets its contract: the folders, then what follows them.
-use mathlib.Core.Path.{_∙_, sym, ap}
-use lib.ListN.{length}
+use mathlib.Core.Path.{_∙_, sym}
+use lib.ListN.{length, replicate}
 use lib.Dec.{leb}
 use borrow.Author.Needs.{needs}
 use Rattle.vocabulary.proofs.Bools.{neither}
 use Rattle.desk_core.specs.Output.{isRequest, filedAt, ending}
 use Rattle.desk_lines.specs.Lines.{lineAt}
-use Rattle.desk_core.specs.Heading.{Stored}
 use Rattle.desk_core.specs.Step.{openedOn}
-use Rattle.desk_core.proofs.Filed.{filed-even}
+use Rattle.desk_core.proofs.Filed.{filed-even, stored-end}
 use Rattle.desk_core.proofs.heading.from_folders.Tie as tie
 use Rattle.desk_core.proofs.heading.from_folders.Statement.{statement}
 
@@ -32,7 +31,7 @@ unfolding openedOn
 returns c =
     let a = c .before .before .before .before .before .before .before .before .before .args in
     let e = c .before .before .before .before .before .file .ensures in
-    let end = ap (λ (s : Stored). s .filing .place) e in
+    let end = stored-end (c .before .before .before .before .before .file .result) _ _ (replicate 512 0) (replicate 512 0) (filedAt (a .text .now) (a .place)) e in
     c .checked .ensures (filedAt (a .text .now) (a .place)) (record { even = filed-even (a .text .now) (a .place); kept = e }) ∙ rw (← end, ← c .before .before .filing-ends .ensures, c .before .if1 .taken)
 
 ending-requires : tie.Need-ending-requires
@@ -44,9 +43,10 @@ closed-requires c κs = search needs
 returns-2 : tie.Need-returns-2
 unfolding openedOn ending
 returns-2 c =
-    let text = c .before .before .before .before .before .before .before .before .before .before .args .text .now in
+    let a = c .before .before .before .before .before .before .before .before .before .before .args in
+    let text = a .text .now in
     let end = c .before .before .before .before .before .before .file .result .place in
-    let there = ap (λ (s : Stored). s .filing .place) (c .before .before .before .before .before .before .file .ensures) in
+    let there = stored-end (c .before .before .before .before .before .before .file .result) _ _ (replicate 512 0) (replicate 512 0) (filedAt text (a .place)) (c .before .before .before .before .before .before .file .ensures) in
     let tests = neither (isRequest (lineAt text end)) (leb (length text) end) (sym (c .before .before .before .filing-ends .ensures) ∙ c .before .before .if1 .left) in
     rw (c .closed .ensures, c .before .ending .ensures, ← there, ← c .before .before .before .filing-ends .ensures, c .before .before .if1 .left, tests .1)
 
