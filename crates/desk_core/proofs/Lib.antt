@@ -1,5 +1,3 @@
-pub mod Recorded
-pub mod Answered
 pub mod Filed
 pub mod Arms
 pub mod Opened

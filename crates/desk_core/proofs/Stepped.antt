@@ -3,18 +3,46 @@ use Prim.Native.Nat.{ℕ, _≤_}
 use mathlib.Core.Path.{_≡_, refl, sym, ap}
 use mathlib.Core.Bool.{true, false, false≢true}
 use mathlib.Core.List.{List}
+use mathlib.Core.Logic.{_⊎_, inl, inr}
+use lib.Dec.{eqb}
+use borrow.Author.Tests.{eqb-true}
+use Rattle.vocabulary.specs.Answer.{Answer}
+use Rattle.vocabulary.proofs.Bools.{true-or-false}
 use Rattle.register.specs.Register.{Register}
-use Rattle.policy.specs.Outcome.{Request, Log, Outcome, told, outcome}
+use Rattle.policy.specs.Outcome.{Request, Log, Outcome, isLogged, told, toldAnswer, outcome}
+use Rattle.policy.specs.Session.{answerLine}
 use Rattle.policy.specs.Session as session
 use Rattle.monitor.specs.declared.Reply.{Reply}
 use Rattle.monitor.specs.Reply.{replyAnswer, replied}
 use Rattle.desk_print.specs.declared.Text.{Text}
 use Rattle.desk_print.specs.Text.{textOf}
+use Rattle.desk_answers.specs.Recorded.{answerText}
+use Rattle.desk_answers.proofs.Answered.{logged-text}
 use Rattle.desk_lines.specs.Lines.{Line, loginsLine, folderLine, requestLine, illLine, lineAt}
-use Rattle.desk_core.specs.Output.{isRequest}
-use Rattle.desk_core.specs.Recorded.{answerText}
+use Rattle.desk_core.specs.Output.{lineText, isRequest}
 use Rattle.desk_core.specs.Step.{over, steppedOn, stepped, left, leftBy}
-use Rattle.desk_core.proofs.Answered.{answer-text}
+
+-- ---- the line of an answer
+
+-- What the caller is told has the answer's number.
+told-number : (a : Answer) → toldAnswer a .number ≡ a .number
+told-number a = by (true-or-false (eqb (a .number) 0))
+  where
+    by : (eqb (a .number) 0 ≡ true) ⊎ (eqb (a .number) 0 ≡ false) → toldAnswer a .number ≡ a .number
+    by (inl e) = rw e (sym (eqb-true (a .number) 0 e))
+    by (inr e) = rw e
+
+-- What is printed of the answer that the caller is told is the request's line.
+answer-text : (r : Register) (m : List ℕ) (q : Request) (log : Log) → log .serial ≤ 65535 → (a : Answer) → a .number ≡ toldAnswer (outcome r m q log .answer) .number
+    → answerText a (outcome r m q log .log .bytes) (log .end) ≡ lineText (answerLine log (outcome r m q log))
+answer-text r m q log serial a e = rw (e, told-number (outcome r m q log .answer)) (by (true-or-false (isLogged (outcome r m q log .answer))))
+  where
+    by : (isLogged (outcome r m q log .answer) ≡ true) ⊎ (isLogged (outcome r m q log .answer) ≡ false)
+        → answerText (outcome r m q log .answer) (outcome r m q log .log .bytes) (log .end) ≡ lineText (answerLine log (outcome r m q log))
+    by (inl l) = rw l (logged-text r m q log serial l)
+    by (inr l) = rw l
+
+-- ---- a step
 
 module _ (text : List ℕ) (r : Register) (place : ℕ) (matrix : List ℕ) (log : Log) where
   over-on : (line : Line) → isRequest line ≡ false → steppedOn line text r place matrix log ≡ over text place matrix log

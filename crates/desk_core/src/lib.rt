@@ -8,7 +8,6 @@ ghost use Rattle.monitor.specs.Reply.{logOf};
 ghost use Rattle.desk_core.specs.Step.{opened, openingOf, left, leftBy, stepped};
 
 mod heading; // the lines before the requests
-mod serving; // a request's line
 
 // The input up to its first request, or up to its end: what is printed of it, and, if the run goes on, the register and the place after it.
 pub struct Opening {
@@ -73,7 +72,7 @@ pub fn step(
             );
             let given = reply.answer;
             Progress {
-                text: serving::answer_line(given, log, end),
+                text: desk_answers::answer_line(given, log, end),
                 onward: true,
                 place: next,
                 end: reply.end,

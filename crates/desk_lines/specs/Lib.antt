@@ -1,4 +1,4 @@
--- The rules:
+-- The rules: the lines of the input.
 pub mod Lines
--- Internal:
+-- Internal: a number's digits as the code reads them.
 pub mod Reads

@@ -1,0 +1,2 @@
+-- Internal: the line of an answer, read back from the log.
+pub mod Recorded
