@@ -1,5 +1,5 @@
-pub mod Ruled
 pub mod Logged
 pub mod Lost
-pub mod Stages
 pub mod FirstRows
+pub mod Responses
+pub mod Served

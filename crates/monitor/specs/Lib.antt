@@ -1,2 +1,4 @@
+-- The rules:
 pub mod Reply
+-- Internal:
 pub mod Stages

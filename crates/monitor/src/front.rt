@@ -1,70 +1,52 @@
-// Rows 1 to 7 of the table: register, matrix and request.
-use crate::Answer;
-use ids::FolderNo;
-use ids::LoginNo;
+// Rows 1 to 7 of the table: register, matrix and request. Where they are passed the response is a grant, with nothing taken back yet.
+use ids::Request;
 use register::Verdict;
+use response::Response;
 ghost use Prim.Native.Nat.{_≤_};
 ghost use mathlib.Core.Path.{_≡_};
-ghost use mathlib.Core.List.{[], _++_};
-ghost use lib.ListN.{length};
-ghost use Rattle.vocabulary.specs.Answer.{answer, judge};
-ghost use Rattle.register.specs.Register.{registerOf, registerChecks};
+ghost use Rattle.register.specs.Lent.{lent};
+ghost use Rattle.response.specs.Response.{responseAnswer};
 ghost use Rattle.monitor.specs.Reply.{requestOf};
-ghost use Rattle.monitor.specs.Stages.{frontAnswer, frontChecks};
-
-// What the first rows say of a request.
-pub(crate) enum Front {
-    Refused(Answer),
-    Open,
-}
+ghost use Rattle.monitor.specs.Stages.{fourToSeven, oneToSeven};
 
 // Rows 4 to 7, once P and F are in range.
-fn known(
-    logins: usize,
-    folders: usize,
-    size: usize,
-    login: LoginNo,
-    folder: FolderNo,
-    kind: u16,
-) -> Front
+fn known(logins: usize, folders: usize, size: usize, asked: Request) -> Response
     requires { ⌜ (logins ≤ 128) × (folders ≤ 512) ⌝ }
-    ensures { λ r. ⌜ frontAnswer r ≡ judge (frontChecks logins folders size (requestOf login folder kind)) (answer 0 []) ⌝ }
+    ensures { λ r. ⌜ responseAnswer r ≡ fourToSeven logins folders size (requestOf asked) ⌝ }
 {
     if size != logins * folders {
-        return Front::Refused(Answer::MatrixLength);
+        return Response::MatrixLength;
     }
-    if logins <= login.0 as usize {
-        return Front::Refused(Answer::UnknownLogin);
+    if logins <= asked.login.0 as usize {
+        return Response::UnknownLogin;
     }
-    if folders <= folder.0 as usize {
-        return Front::Refused(Answer::UnknownFolder);
+    if folders <= asked.folder.0 as usize {
+        return Response::UnknownFolder;
     }
-    if kind < 1 {
-        return Front::Refused(Answer::UnknownKind);
+    if asked.kind < 1 {
+        return Response::UnknownKind;
     }
-    if 4 < kind {
-        return Front::Refused(Answer::UnknownKind);
+    if 4 < asked.kind {
+        return Response::UnknownKind;
     }
-    Front::Open
+    Response::Granted(0)
 }
 
-// Rows 1 to 7.
+// Rows 1 to 7; `size` is the matrix's length.
 pub(crate) fn judge_front(
     logins: usize,
     classes: &[u16],
     clients: &[u16],
     size: usize,
-    login: LoginNo,
-    folder: FolderNo,
-    kind: u16,
-) -> Front
-    ensures { λ r. ⌜ frontAnswer r ≡ judge (registerChecks (registerOf logins (now (classes .entry)) (now (clients .entry))) ++ frontChecks logins (length (now (classes .entry))) size (requestOf login folder kind)) (answer 0 []) ⌝ }
+    asked: Request,
+) -> Response
+    ensures { λ r. ⌜ responseAnswer r ≡ oneToSeven (lent logins classes clients) size (requestOf asked) ⌝ }
 {
     let verdict = register::check(logins, classes, clients);
     match verdict {
-        Verdict::OutOfRange => Front::Refused(Answer::OutOfRange),
-        Verdict::LoneZero(f) => Front::Refused(Answer::LoneZero(f)),
-        Verdict::TwoClasses(f, g) => Front::Refused(Answer::TwoClasses(f, g)),
-        Verdict::Accepted => known(logins, classes.len(), size, login, folder, kind),
+        Verdict::OutOfRange => Response::OutOfRange,
+        Verdict::LoneZero(f) => Response::LoneZero(f),
+        Verdict::TwoClasses(f, g) => Response::TwoClasses(f, g),
+        Verdict::Accepted => known(logins, classes.len(), size, asked),
     }
 }

@@ -1,120 +1,78 @@
 // A request on the row of the login that asks: rows 8 to 30 of the table.
-use crate::Answer;
 use crate::Reply;
-use crate::decide;
-use crate::decide::Ruling;
+use crate::Tail;
 use crate::record;
-use crate::row;
-use crate::rules::Sort;
 use ids::FolderNo;
-use ids::LoginNo;
-ghost use Prim.Native.Nat.{_≤_, _<_};
+use ids::Request;
+use response::Response;
+use row::Ruling;
+ghost use Prim.Native.Nat.{_≤_};
 ghost use mathlib.Core.Path.{_≡_};
 ghost use lib.ListN.{length};
-ghost use Rattle.policy.specs.Outcome.{wallAnswer, logged, told};
-ghost use Rattle.monitor.specs.Reply.{requestOf, logOf, replied};
-ghost use Rattle.monitor.specs.Stages.{labels, rowLeft, rowOutcome};
+ghost use Rattle.register.specs.Lent.{lentFolders};
+ghost use Rattle.response.specs.Response.{responseAnswer};
+ghost use Rattle.monitor.specs.Reply.{requestOf, replied};
+ghost use Rattle.policy.specs.Outcome.{toldAnswer};
+ghost use Rattle.row.specs.Row.{rulingAnswer};
+ghost use Rattle.monitor.specs.Stages.{lentLog, uncounted, servedAnswer, servedOutcome};
 
-// The wall's answer, carried out.
-fn rule(
-    row: &mut [u8],
-    classes: &[u16],
-    clients: &[u16],
-    login: LoginNo,
-    folder: FolderNo,
-    kind: u16,
-    log: &mut [u8],
-    end: usize,
-    serial: u16,
-) -> Reply
-    requires { ⌜ (length (now classes) ≡ length (now row)) × (length (now clients) ≡ length (now row)) × (length (now row) ≤ 512) × (folder .0 < length (now row)) × (end ≤ length (now log)) ⌝ }
-    ensures { λ r. ⌜ replied r (now (row .exit)) (now (log .exit)) ≡ told (logged (requestOf login folder kind) (logOf (now (log .entry)) end serial) (wallAnswer (labels (now (classes .entry)) (now (clients .entry))) (now (row .entry)) (folder .0) kind) (now (row .entry)) (rowLeft (labels (now (classes .entry)) (now (clients .entry))) (now (row .entry)) (requestOf login folder kind) (wallAnswer (labels (now (classes .entry)) (now (clients .entry))) (now (row .entry)) (folder .0) kind))) ⌝ }
+// The response to a ruling; to a grant, one with nothing taken back yet.
+fn respond(ruling: Ruling) -> Response
+    ensures { λ r. ⌜ responseAnswer r ≡ toldAnswer (rulingAnswer ruling) ⌝ }
 {
-    let ruling = decide::decide(row, classes, clients, folder.0 as usize, kind);
     match ruling {
-        Ruling::Granted => record::grant(
-            row,
-            classes,
-            clients,
-            login,
-            folder,
-            kind,
-            log,
-            end,
-            serial,
-        ),
-        Ruling::Rival(named) => {
-            record::refuse(
-                log,
-                end,
-                serial,
-                login,
-                folder,
-                kind,
-                20,
-                named,
-                Answer::Rival(named),
-            )
-        }
-        Ruling::Foreign(named) => {
-            record::refuse(
-                log,
-                end,
-                serial,
-                login,
-                folder,
-                kind,
-                21,
-                named,
-                Answer::Foreign(named),
-            )
-        }
-        Ruling::AtStake(named) => {
-            record::refuse(
-                log,
-                end,
-                serial,
-                login,
-                folder,
-                kind,
-                22,
-                named,
-                Answer::AtStake(named),
-            )
-        }
+        Ruling::Unfit => Response::OutOfRange,
+        Ruling::UnknownFolder => Response::UnknownFolder,
+        Ruling::Granted => Response::Granted(0),
+        Ruling::Rival(f) => Response::Rival(f),
+        Ruling::Foreign(f) => Response::Foreign(f),
+        Ruling::AtStake(f) => Response::AtStake(f),
     }
 }
 
-// The row and the log's end are judged first.
+// Rows 8, 9 and 20 to 22, in their order; `size` is the length of the log's buffer.
+fn judge_row(
+    row: &[u8],
+    classes: &[u16],
+    clients: &[u16],
+    asked: Request,
+    size: usize,
+    tail: Tail,
+) -> Response
+    requires { ⌜ length (now row) ≤ 512 ⌝ }
+    ensures { λ r. ⌜ responseAnswer r ≡ uncounted (servedAnswer (lentFolders classes clients) (now (row .entry)) (requestOf asked) size (tail .end)) ⌝ }
+{
+    let large = cells::first_above(row);
+    if large < row.len() {
+        return Response::BadCell(FolderNo(large as u16));
+    }
+    if size < tail.end {
+        return Response::BadEnd;
+    }
+    respond(row::decide(row, classes, clients, asked.folder, asked.kind))
+}
+
+// A request on a row, judged and carried out.
 pub(crate) fn serve(
     row: &mut [u8],
     classes: &[u16],
     clients: &[u16],
-    login: LoginNo,
-    folder: FolderNo,
-    kind: u16,
+    asked: Request,
     log: &mut [u8],
-    end: usize,
-    serial: u16,
+    tail: Tail,
 ) -> Reply
-    requires { ⌜ (length (now classes) ≡ length (now row)) × (length (now clients) ≡ length (now row)) × (length (now row) ≤ 512) × (folder .0 < length (now row)) ⌝ }
-    ensures { λ r. ⌜ replied r (now (row .exit)) (now (log .exit)) ≡ told (rowOutcome (labels (now (classes .entry)) (now (clients .entry))) (now (row .entry)) (requestOf login folder kind) (logOf (now (log .entry)) end serial)) ⌝ }
+    requires { ⌜ length (now row) ≤ 512 ⌝ }
+    ensures { λ r. ⌜ replied r (now (row .exit)) (now (log .exit)) ≡ servedOutcome (lentFolders classes clients) (now (row .entry)) (requestOf asked) (lentLog log tail) ⌝ }
 {
-    let o = decide::label_of(classes, clients, folder.0 as usize);
-    let large = row::find(Sort::TooLarge, row, classes, clients, o);
-    if large < row.len() {
-        return Reply {
-            answer: Answer::BadCell(decide::folder_no(large)),
-            end: end,
-            serial: serial,
-        };
+    let response = judge_row(row, classes, clients, asked, log.len(), tail);
+    match response {
+        Response::Granted(_) => record::grant(row, classes, clients, asked, log, tail),
+        Response::Rival(f) => record::refuse(log, tail, asked, 20, f, response),
+        Response::Foreign(f) => record::refuse(log, tail, asked, 21, f, response),
+        Response::AtStake(f) => record::refuse(log, tail, asked, 22, f, response),
+        _ => Reply {
+            response: response,
+            tail: tail,
+        },
     }
-    if log.len() < end {
-        return Reply {
-            answer: Answer::BadEnd,
-            end: end,
-            serial: serial,
-        };
-    }
-    rule(row, classes, clients, login, folder, kind, log, end, serial)
 }

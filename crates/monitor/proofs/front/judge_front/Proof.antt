@@ -1,13 +1,8 @@
 -- `judge_front` meets its contract: the register's rows come before the others.
-use Rattle.monitor.proofs.FirstRows.{registered-range, register-open, register-refused}
-use Rattle.monitor.specs.Stages.{frontChecks}
-use Rattle.monitor.specs.Reply.{requestOf}
-use Rattle.register.proofs.Answers.{inRange-ranged}
-use Rattle.register.specs.Register.{registerOf}
-use Rattle.vocabulary.specs.Answer.{answer}
-use lib.ListN.{length}
+use mathlib.Core.Path.{_∙_}
 use mathlib.Core.List.{[], _∷_}
-use mathlib.Core.Path.{sym, _∙_}
+use Rattle.vocabulary.specs.Answer.{answer}
+use Rattle.monitor.proofs.FirstRows.{registered-range, register-open, register-refused}
 use native.Mathlib.Omega.{arith}
 use borrow.Author.Needs.{needs}
 use Rattle.monitor.proofs.front.judge_front.Statement.{statement}
@@ -30,25 +25,24 @@ enum-told-2 c = search needs
 
 known-requires : tie.Need-known-requires
 known-requires c κs =
-    let e = registered-range (registerOf (c .before .before .before .before .before .args .logins) (c .before .before .before .before .before .args .classes .now) (c .before .before .before .before .before .args .clients .now)) (rw (c .enum-told2 .given .1) at (c .before .before .check .ensures)) in
-    let g = inRange-ranged (registerOf (c .before .before .before .before .before .args .logins) (c .before .before .before .before .before .args .classes .now) (c .before .before .before .before .before .args .clients .now)) e in
+    let g = registered-range _ (rw (c .enum-told2 .given .1) at (c .before .before .check .ensures)) in
     (g .logins-few, g .folders-few)
 
 returns : tie.Need-returns
 returns c =
-    register-refused (registerOf (c .before .before .before .before .before .args .logins) (c .before .before .before .before .before .args .classes .now) (c .before .before .before .before .before .args .clients .now)) (frontChecks (c .before .before .before .before .before .args .logins) (length (c .before .before .before .before .before .args .classes .now)) (c .before .before .before .before .before .args .size) (requestOf (c .before .before .before .before .before .args .login) (c .before .before .before .before .before .args .folder) (c .before .before .before .before .before .args .kind))) (answer 0 []) (answer 1 []) (λ z. omega arith) (rw (c .enum-told .given .1) at (c .before .before .check .ensures))
+    register-refused _ _ _ (answer 1 []) (λ z. omega arith) (rw (c .enum-told .given .1) at (c .before .before .check .ensures))
 
 returns-2 : tie.Need-returns-2
 returns-2 c =
-    register-refused (registerOf (c .before .before .before .before .before .before .args .logins) (c .before .before .before .before .before .before .args .classes .now) (c .before .before .before .before .before .before .args .clients .now)) (frontChecks (c .before .before .before .before .before .before .args .logins) (length (c .before .before .before .before .before .before .args .classes .now)) (c .before .before .before .before .before .before .args .size) (requestOf (c .before .before .before .before .before .before .args .login) (c .before .before .before .before .before .before .args .folder) (c .before .before .before .before .before .before .args .kind))) (answer 0 []) (answer 2 (c .before .verdict .given .0 .0 .0 ∷ [])) (λ z. omega arith) (rw (c .before .verdict .given .1) at (c .before .before .before .check .ensures))
+    register-refused _ _ _ (answer 2 (c .before .verdict .given .0 .0 .0 ∷ [])) (λ z. omega arith) (rw (c .before .verdict .given .1) at (c .before .before .before .check .ensures))
 
 returns-3 : tie.Need-returns-3
 returns-3 c =
-    register-refused (registerOf (c .before .before .before .before .before .before .args .logins) (c .before .before .before .before .before .before .args .classes .now) (c .before .before .before .before .before .before .args .clients .now)) (frontChecks (c .before .before .before .before .before .before .args .logins) (length (c .before .before .before .before .before .before .args .classes .now)) (c .before .before .before .before .before .before .args .size) (requestOf (c .before .before .before .before .before .before .args .login) (c .before .before .before .before .before .before .args .folder) (c .before .before .before .before .before .before .args .kind))) (answer 0 []) (answer 3 (c .before .verdict2 .given .0 .0 .0 ∷ c .before .verdict2 .given .0 .1 .0 .0 ∷ [])) (λ z. omega arith) (rw (c .before .verdict2 .given .1) at (c .before .before .before .check .ensures))
+    register-refused _ _ _ (answer 3 (c .before .verdict2 .given .0 .0 .0 ∷ c .before .verdict2 .given .0 .1 .0 .0 ∷ [])) (λ z. omega arith) (rw (c .before .verdict2 .given .1) at (c .before .before .before .check .ensures))
 
 returns-4 : tie.Need-returns-4
 returns-4 c =
-    c .known .ensures ∙ sym (register-open (registerOf (c .before .before .before .before .before .before .args .logins) (c .before .before .before .before .before .before .args .classes .now) (c .before .before .before .before .before .before .args .clients .now)) (frontChecks (c .before .before .before .before .before .before .args .logins) (length (c .before .before .before .before .before .before .args .classes .now)) (c .before .before .before .before .before .before .args .size) (requestOf (c .before .before .before .before .before .before .args .login) (c .before .before .before .before .before .before .args .folder) (c .before .before .before .before .before .before .args .kind))) (answer 0 []) (rw (c .before .enum-told2 .given .1) at (c .before .before .before .check .ensures)))
+    c .known .ensures ∙ register-open _ _ _ (rw (c .before .enum-told2 .given .1) at (c .before .before .before .check .ensures))
 
 pub judge-front-spec : {M : Type 1} → statement M
 judge-front-spec =

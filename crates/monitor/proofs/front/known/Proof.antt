@@ -1,8 +1,8 @@
 -- `known` meets its contract: each test is a row of the definition.
-use Rattle.monitor.proofs.FirstRows.{product-fits}
-use Rattle.monitor.specs.Stages.{frontChecks}
-use Rattle.vocabulary.specs.Answer.{judge}
 use borrow.Author.Tests.{eq-eqb, ne-eqb, le-leb, lt-leb}
+use Rattle.vocabulary.specs.Answer.{judge}
+use Rattle.monitor.specs.Stages.{frontChecks, fourToSeven}
+use Rattle.monitor.proofs.FirstRows.{product-fits}
 use native.Mathlib.Omega.{arith}
 use borrow.Author.Needs.{needs}
 use Rattle.monitor.proofs.front.known.Statement.{statement}
@@ -13,7 +13,7 @@ mul-if1 c =
     omega (arith, product-fits (c .pre .0) (c .pre .1))
 
 returns : tie.Need-returns
-unfolding frontChecks judge
+unfolding fourToSeven frontChecks judge
 returns c =
     rw (ne-eqb _ _ (c .if1 .taken))
 
@@ -21,7 +21,7 @@ cast-if2 : tie.Need-cast-if2
 cast-if2 c = search needs
 
 returns-2 : tie.Need-returns-2
-unfolding frontChecks judge
+unfolding fourToSeven frontChecks judge
 returns-2 c =
     rw (eq-eqb _ _ (c .before .before .if1 .left), le-leb _ _ (c .if2 .taken))
 
@@ -29,24 +29,24 @@ cast-if3 : tie.Need-cast-if3
 cast-if3 c = search needs
 
 returns-3 : tie.Need-returns-3
-unfolding frontChecks judge
+unfolding fourToSeven frontChecks judge
 returns-3 c =
     rw (eq-eqb _ _ (c .before .before .before .before .if1 .left), lt-leb _ _ (c .before .before .if2 .left), le-leb _ _ (c .if3 .taken))
 
 returns-4 : tie.Need-returns-4
-unfolding frontChecks judge
+unfolding fourToSeven frontChecks judge
 returns-4 c =
-    rw (eq-eqb _ _ (c .before .before .before .before .before .if1 .left), lt-leb _ _ (c .before .before .before .if2 .left), lt-leb _ _ (c .before .if3 .left), lt-leb _ _ (c .if4 .taken))
+    rw (eq-eqb _ _ (c .before .before .before .before .before .before .if1 .left), lt-leb _ _ (c .before .before .before .before .if2 .left), lt-leb _ _ (c .before .before .if3 .left), lt-leb _ _ (c .if4 .taken))
 
 returns-5 : tie.Need-returns-5
-unfolding frontChecks judge
+unfolding fourToSeven frontChecks judge
 returns-5 c =
-    rw (eq-eqb _ _ (c .before .before .before .before .before .before .if1 .left), lt-leb _ _ (c .before .before .before .before .if2 .left), lt-leb _ _ (c .before .before .if3 .left), le-leb _ _ (c .before .if4 .left), lt-leb _ _ (c .if5 .taken))
+    rw (eq-eqb _ _ (c .before .before .before .before .before .before .before .before .if1 .left), lt-leb _ _ (c .before .before .before .before .before .before .if2 .left), lt-leb _ _ (c .before .before .before .before .if3 .left), le-leb _ _ (c .before .before .if4 .left), lt-leb _ _ (c .if5 .taken))
 
 returns-6 : tie.Need-returns-6
-unfolding frontChecks judge
+unfolding fourToSeven frontChecks judge
 returns-6 c =
-    rw (eq-eqb _ _ (c .before .before .before .before .before .before .if1 .left), lt-leb _ _ (c .before .before .before .before .if2 .left), lt-leb _ _ (c .before .before .if3 .left), le-leb _ _ (c .before .if4 .left), le-leb _ _ (c .if5 .left))
+    rw (eq-eqb _ _ (c .before .before .before .before .before .before .before .before .if1 .left), lt-leb _ _ (c .before .before .before .before .before .before .if2 .left), lt-leb _ _ (c .before .before .before .before .if3 .left), le-leb _ _ (c .before .before .if4 .left), le-leb _ _ (c .if5 .left))
 
 pub known-spec : {M : Type 1} → statement M
 known-spec =
