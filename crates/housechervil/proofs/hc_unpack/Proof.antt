@@ -1,7 +1,7 @@
 -- `hc_unpack` meets its contract: the answer, as a record; the buffer is as unpacking leaves it.
 use mathlib.Core.Path.{ap}
 use borrow.Author.Needs.{needs}
-use Rattle.housechervil.specs.Records.{written}
+use Rattle.housechervil.specs.Records.{copied}
 use Rattle.housechervil.proofs.hc_unpack.Statement.{statement}
 use Rattle.housechervil.proofs.hc_unpack.Tie as tie
 
@@ -16,7 +16,7 @@ same-length c = search needs
 
 returns : tie.Need-returns
 returns c =
-    rw (c .unpacking .ensures) (ap written (c .before .before .before .unpack .ensures))
+    rw (c .unpacking .ensures) (ap copied (c .before .before .before .unpack .ensures))
 
 pub hc-unpack-spec : {M : Type 1} → statement M
 hc-unpack-spec = tie.close (tie.spec unpack-requires unpacking-requires same-length returns)
