@@ -3,6 +3,7 @@ use desk_core::Opening;
 use desk_print::Text;
 use libc::STDIN_FILENO;
 use libc::STDOUT_FILENO;
+use monitor::Tail;
 ghost use mathlib.Core.Path.{_≡_};
 ghost use lib.ListN.{length};
 
@@ -70,26 +71,14 @@ fn run(
     log: &mut [u8],
 ) {
     let mut at = place;
-    let mut end = 0;
-    let mut serial = 0;
+    let mut tail = Tail { end: 0, serial: 0 };
     for _ in 0..=input.len() {
-        let progress = desk_core::step(
-            input,
-            at,
-            logins,
-            classes,
-            clients,
-            matrix,
-            log,
-            end,
-            serial,
-        );
+        let progress = desk_core::step(input, at, logins, classes, clients, matrix, log, tail);
         let text = progress.text;
         if !(show(text) & progress.onward) {
             return;
         }
         at = progress.place;
-        end = progress.end;
-        serial = progress.serial;
+        tail = progress.tail;
     }
 }

@@ -13,14 +13,15 @@ use Rattle.policy.specs.Outcome.{Request, Log, Outcome, isLogged, told, toldAns
 use Rattle.policy.specs.Session.{answerLine}
 use Rattle.policy.specs.Session as session
 use Rattle.monitor.specs.declared.Reply.{Reply}
-use Rattle.monitor.specs.Reply.{replyAnswer, replied}
+use Rattle.response.specs.Response.{responseAnswer}
+use Rattle.monitor.specs.Reply.{replied}
 use Rattle.desk_print.specs.declared.Text.{Text}
 use Rattle.desk_print.specs.Text.{textOf}
 use Rattle.desk_answers.specs.Recorded.{answerText}
 use Rattle.desk_answers.proofs.Answered.{logged-text}
 use Rattle.desk_lines.specs.Lines.{Line, loginsLine, folderLine, requestLine, illLine, lineAt}
 use Rattle.desk_core.specs.Output.{lineText, isRequest}
-use Rattle.desk_core.specs.Step.{over, steppedOn, stepped, left, leftBy}
+use Rattle.desk_core.specs.Step.{over, steppedOn, stepped, left, leftBy, tailOf}
 
 -- ---- the line of an answer
 
@@ -61,23 +62,21 @@ module _ (text : List ℕ) (r : Register) (place : ℕ) (matrix : List ℕ) (log
 
     -- The reply, the line that is printed of it, and what was lent.
     pub stepped-request : (reply : Reply) (after bytes : List ℕ) (words : Text) → replied reply after bytes ≡ told (outcome r matrix asked log)
-        → words ≡ textOf (answerText (replyAnswer (reply .answer)) bytes (log .end))
+        → words ≡ textOf (answerText (responseAnswer (reply .response)) bytes (log .end))
         → left (record {
           text = words;
           onward = true;
           place = next;
-          end = reply .end;
-          serial = reply .serial;
+          tail = reply .tail;
         }) after bytes ≡ leftBy (stepped text r place matrix log)
     unfolding stepped
     stepped-request reply after bytes words e f =
-        let line = answer-text r matrix asked log serial (replyAnswer (reply .answer)) (ap (λ (x : Outcome). x .answer .number) e) in
+        let line = answer-text r matrix asked log serial (responseAnswer (reply .response)) (ap (λ (x : Outcome). x .answer .number) e) in
         rw (
           here,
           f,
           ap (λ (x : Outcome). x .log .bytes) e,
           line,
           ap (λ (x : Outcome). x .matrix) e,
-          ap (λ (x : Outcome). x .log .end) e,
-          ap (λ (x : Outcome). x .log .serial) e,
+          ap (λ (x : Outcome). tailOf (x .log)) e,
         )

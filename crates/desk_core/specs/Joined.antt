@@ -18,7 +18,7 @@ unfoldable pub stepsBy : (fuel : ℕ) → List ℕ → Register → (place : ℕ
 stepsBy zero text r place matrix log = []
 stepsBy (suc fuel) text r place matrix log =
     let x : Left = leftBy (stepped text r place matrix log) in
-    shown (x .step .text) ++ cond (x .step .onward) (stepsBy fuel text r (x .step .place) (x .matrix) (logOf (x .log) (x .step .end) (x .step .serial))) []
+    shown (x .step .text) ++ cond (x .step .onward) (stepsBy fuel text r (x .step .place) (x .matrix) (logOf (x .log) (x .step .tail))) []
 
 -- A run: the opening, and then the steps from a blank matrix and a new log. One step more than the text has bytes is enough: every
 -- request line has bytes, and one step finds the end.

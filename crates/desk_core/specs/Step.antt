@@ -11,6 +11,7 @@ use Rattle.policy.specs.Outcome.{Log, Outcome, outcome}
 use Rattle.policy.specs.Session.{answerLine}
 use Rattle.policy.specs.Session as session
 use Rattle.desk_print.specs.declared.Text.{Text}
+use Rattle.monitor.specs.declared.Tail.{Tail}
 use Rattle.desk_core.specs.declared.Opening.{Opening}
 use Rattle.desk_core.specs.declared.Progress.{Progress}
 use Rattle.desk_lines.specs.Lines.{Line, loginsLine, folderLine, requestLine, illLine, lineAt, lineNumber}
@@ -142,6 +143,14 @@ left step matrix log =
       log = log;
     }
 
+-- Where the log ends, and the serial of its next record.
+abbrev pub tailOf : Log → Tail
+tailOf log =
+    record {
+      end = log .end;
+      serial = log .serial;
+    }
+
 abbrev pub leftBy : Stepped → Left
 leftBy x =
     record {
@@ -149,8 +158,7 @@ leftBy x =
         text = textOf (x .text);
         onward = x .onward;
         place = x .place;
-        end = x .log .end;
-        serial = x .log .serial;
+        tail = tailOf (x .log);
       };
       matrix = x .matrix;
       log = x .log .bytes;

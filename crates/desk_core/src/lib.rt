@@ -2,6 +2,7 @@
 // its first request, and `step` one line after the other from there.
 use desk_lines::Line;
 use desk_print::Text;
+use monitor::Tail;
 ghost use mathlib.Core.Path.{_≡_};
 ghost use Rattle.register.specs.Lent.{lent};
 ghost use Rattle.monitor.specs.Reply.{logOf};
@@ -20,13 +21,12 @@ pub struct Opening {
     pub place: usize,
 }
 
-// What a step prints, whether the run goes on, and the place, the log's end and the serial with which it does.
+// What a step prints, whether the run goes on, and the place and the log's tail with which it does.
 pub struct Progress {
     pub text: Text,
     pub onward: bool,
     pub place: usize,
-    pub end: usize,
-    pub serial: u16,
+    pub tail: Tail,
 }
 
 // The input up to its first request, or up to its end: its length, `P n`, the folders, the register's check. Prints the refusal, or nothing.
@@ -49,42 +49,27 @@ pub fn step(
     clients: &[u16],
     matrix: &mut [u8],
     log: &mut [u8],
-    end: usize,
-    serial: u16,
+    tail: Tail,
 ) -> Progress
-    ensures { λ r. ⌜ left r (now (matrix .exit)) (now (log .exit)) ≡ leftBy (stepped (now (text .entry)) (lent logins classes clients) place (now (matrix .entry)) (logOf (now (log .entry)) end serial)) ⌝ }
+    ensures { λ r. ⌜ left r (now (matrix .exit)) (now (log .exit)) ≡ leftBy (stepped (now (text .entry)) (lent logins classes clients) place (now (matrix .entry)) (logOf (now (log .entry)) tail)) ⌝ }
 {
     match desk_lines::read_line(text, place) {
         Line::Request { asked, next } => {
-            let login = asked.login;
-            let folder = asked.folder;
-            let reply = monitor::request(
-                logins,
-                classes,
-                clients,
-                matrix,
-                login,
-                folder,
-                asked.kind,
-                log,
-                end,
-                serial,
-            );
-            let given = reply.answer;
+            let reply = monitor::request(logins, classes, clients, matrix, asked, log, tail);
+            let given = reply.response;
+            let after = reply.tail;
             Progress {
-                text: desk_answers::answer_line(given, log, end),
+                text: desk_answers::answer_line(given, log, tail.end),
                 onward: true,
                 place: next,
-                end: reply.end,
-                serial: reply.serial,
+                tail: after,
             }
         }
         _ => Progress {
             text: heading::ending(text, place),
             onward: false,
             place: place,
-            end: end,
-            serial: serial,
+            tail: tail,
         },
     }
 }
