@@ -17,7 +17,7 @@ use Rattle.policy.specs.Outcome.{Request, Log, wallChecks, wallAnswer, byWall, 
 use Rattle.cells.specs.Above.{aboves, firstAbove}
 use Rattle.cells.proofs.Above.{above-found, above-none}
 use Rattle.row.specs.Row.{listsFit, fitting, rowAnswer, lostOn, rowGranted}
-use Rattle.monitor.specs.Stages.{uncounted, rowChecks, servedAnswer, refusedOutcome, enteredOutcome, grantedOutcome, servedOutcome}
+use Rattle.monitor.specs.Stages.{uncounted, rowChecks, servedAnswer, loggedOutcome, grantedOutcome, servedOutcome}
 
 -- ---- rows 8 and 9
 
@@ -72,8 +72,8 @@ module _ (r : Register) (row : List ℕ) (q : Request) (log : Log) where
       rw (uncounted-other a said n e, u, n)
 
   pub served-refused : (number named : ℕ) → byWall (answer number []) ≡ true → eqb number 0 ≡ false → answer number (named ∷ []) ≡ uncounted said →
-      refusedOutcome row q log number named ≡ servedOutcome r row q log
-  unfolding servedOutcome refusedOutcome
+      loggedOutcome row q log (answer number (named ∷ [])) ≡ servedOutcome r row q log
+  unfolding servedOutcome loggedOutcome
   served-refused number named w n e = rw (uncounted-other (answer number (named ∷ [])) said n e, n, w)
 
   said-granted : said .number ≡ 0 → said ≡ answer 0 (lostOn r row (q .folder) (q .kind))
@@ -83,5 +83,5 @@ module _ (r : Register) (row : List ℕ) (q : Request) (log : Log) where
       e ∙ row-granted r row (q .folder) (q .kind) (rw e at n)
 
   pub served-granted : (n : ℕ) → answer 0 (n ∷ []) ≡ uncounted said → grantedOutcome r row q log ≡ servedOutcome r row q log
-  unfolding servedOutcome grantedOutcome enteredOutcome
+  unfolding servedOutcome grantedOutcome
   served-granted n e = rw (said-granted (uncounted-grant n said e))

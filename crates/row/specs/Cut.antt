@@ -10,6 +10,7 @@ use Rattle.vocabulary.specs.Those.{those}
 use Rattle.register.specs.declared.Label.{Label}
 use Rattle.register.specs.Label.{labelOf}
 use Rattle.policy.specs.Rules.{canRead, canWrite, cell, cellFor, reads, writes, revokes}
+use Rattle.row.specs.Row.{listedIn}
 use Rattle.row.specs.declared.rules.Sort.{Sort}
 use Rattle.row.specs.declared.rules.Sort.the-variants.{Rival, Foreign, AtStake}
 
@@ -49,11 +50,7 @@ firstOf sort row classes clients o = getD (allOf sort row classes clients o) 0 (
 abbrev pub leftAt : List ℕ → List ℕ → Label → ℕ → ℕ → ℕ → ℕ → ℕ
 leftAt classes clients o folder kind f c = cellLeft c (labelAt classes clients f) o (eqb f folder) kind
 
--- Zeros alone.
-abbrev pub Blank : List ℕ → Type 0
-Blank list = (i : ℕ) → getD list i 0 ≡ 0
-
--- The numbers l, listed from the start of a blank array, n of them; the place after them may have any number yet.
-pub record Listed (blank l list : List ℕ) (n : ℕ) : Type 0 where
-  pub cleared : set list n 0 ≡ sets blank 0 l
+-- The numbers l, listed from the start of an array, n of them; the place after them may have any number yet.
+pub record Stored (array l list : List ℕ) (n : ℕ) : Type 0 where
+  pub cleared : set list n 0 ≡ listedIn array l .list
   pub counted : n ≡ length l

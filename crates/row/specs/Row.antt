@@ -3,7 +3,7 @@
 use Prim.Native.Nat.{ℕ}
 use mathlib.Core.Bool.{Bool, cond, not, _&&_}
 use mathlib.Core.List.{List, [], _∷_}
-use lib.ListN.{length, replicate}
+use lib.ListN.{length, set}
 use lib.Seq.{sets}
 use lib.Dec.{eqb, leb, ltb}
 use Rattle.vocabulary.specs.Answer.{Answer, answer, check, judge}
@@ -12,7 +12,6 @@ use Rattle.policy.specs.Rules.{lost, rowAfter}
 use Rattle.policy.specs.Outcome.{wallAnswer}
 use Rattle.row.specs.declared.Ruling.{Ruling}
 use Rattle.row.specs.declared.Ruling.the-variants.{Unfit, UnknownFolder, Granted, Rival, Foreign, AtStake}
-use Rattle.row.specs.declared.Lost.{Lost}
 
 -- The two lists are of the row's length, and no row has over 512 folders; else refusal 1.
 unfoldable pub listsFit : Register → List ℕ → Bool
@@ -44,13 +43,21 @@ ruled a = cond (eqb (a .number) 0) (answer 0 []) a
 unfoldable pub lostOn : Register → List ℕ → ℕ → ℕ → List ℕ
 lostOn r row o kind = cond (fitting r row o) (lost r row o kind) []
 
--- A list of folders from the start of an array of 512, zeros after them.
-abbrev pub listOf : List ℕ → Lost
-listOf l =
+-- Folders listed in a lent array: how many, and the array, with the folders from its start and a 0 after them, the rest as it was.
+pub record Listed : Type 0 where
+  pub count : ℕ
+  pub list : List ℕ
+
+abbrev pub listedIn : List ℕ → List ℕ → Listed
+listedIn array l =
     record {
-      folders = sets (replicate 512 0) 0 l;
       count = length l;
+      list = set (sets array 0 l) (length l) 0;
     }
+
+-- The folders lost, listed in a lent array; none where it has fewer places than the row.
+unfoldable pub lostListed : List ℕ → Register → List ℕ → ℕ → ℕ → Listed
+lostListed array r row o kind = listedIn array (cond (leb (length row) (length array)) (lostOn r row o kind) [])
 
 -- The row after a grant; the row as it was where lists or folder do not fit it.
 unfoldable pub rowGranted : Register → List ℕ → ℕ → ℕ → List ℕ

@@ -8,7 +8,7 @@ ghost use lib.ListN.{length};
 ghost use Rattle.vocabulary.specs.Those.{some};
 ghost use Rattle.register.specs.Lent.{lentFolders};
 ghost use Rattle.policy.specs.Outcome.{wallAnswer};
-ghost use Rattle.row.specs.Row.{listsFit, fitting, rowAnswer, rulingAnswer, ruled, lostOn, listOf, rowGranted};
+ghost use Rattle.row.specs.Row.{listsFit, fitting, rowAnswer, rulingAnswer, ruled, lostOn, listedIn, lostListed, rowGranted};
 ghost use Rattle.row.specs.Cut.{Alongside, labelAt};
 
 mod rules; // the rules on one cell and two labels
@@ -28,12 +28,6 @@ pub enum Ruling {
     Foreign(FolderNo),
     // 22: a folder is at stake
     AtStake(FolderNo),
-}
-
-// Folders from the array's start, rising, zeros after them, and how many they are.
-pub struct Lost {
-    pub folders: [u16; 512],
-    pub count: usize,
 }
 
 // Whether the lists are of the row's length and it has at most 512 folders.
@@ -101,24 +95,45 @@ pub fn any_lost(row: &[u8], classes: &[u16], clients: &[u16], folder: FolderNo, 
     false
 }
 
-// The folders that lose their write right on a grant.
-pub fn list_lost(row: &[u8], classes: &[u16], clients: &[u16], folder: FolderNo, kind: u16) -> Lost
-    ensures { λ r. ⌜ r ≡ listOf (lostOn (lentFolders classes clients) (now (row .entry)) (folder .0) kind) ⌝ }
+// Lists the folders that lose their write right on a grant, where the list has a place for each folder of the row.
+fn list_fitting(
+    row: &[u8],
+    classes: &[u16],
+    clients: &[u16],
+    folder: FolderNo,
+    kind: u16,
+    list: &mut [u16],
+) -> usize
+    requires { ⌜ length (now row) ≤ length (now list) ⌝ }
+    ensures { λ r. ⌜ record { count = r; list = now (list .exit) } ≡ listedIn (now (list .entry)) (lostOn (lentFolders classes clients) (now (row .entry)) (folder .0) kind) ⌝ }
 {
-    let mut list = [0u16; 512];
     if fits(row, classes, clients, folder) & rules::revokes(kind) {
         let o = walks::label_of(classes, clients, folder);
-        let count = walks::list_stakes(row, classes, clients, o, &mut list);
-        walks::clear_at(&mut list, count);
-        return Lost {
-            folders: list,
-            count: count,
-        };
+        let count = walks::list_stakes(row, classes, clients, o, list);
+        walks::clear_at(list, count);
+        return count;
     }
-    Lost {
-        folders: list,
-        count: 0,
+    walks::clear_at(list, 0);
+    0
+}
+
+// Lists the folders that lose their write right on a grant from the start of a list, with a 0 after them, and says how many; none if the
+// list has fewer places than the row.
+pub fn list_lost(
+    row: &[u8],
+    classes: &[u16],
+    clients: &[u16],
+    folder: FolderNo,
+    kind: u16,
+    list: &mut [u16],
+) -> usize
+    ensures { λ r. ⌜ record { count = r; list = now (list .exit) } ≡ lostListed (now (list .entry)) (lentFolders classes clients) (now (row .entry)) (folder .0) kind ⌝ }
+{
+    if list.len() < row.len() {
+        walks::clear_at(list, 0);
+        return 0;
     }
+    list_fitting(row, classes, clients, folder, kind, list)
 }
 
 // Changes a row as a grant does.

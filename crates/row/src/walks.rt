@@ -11,7 +11,7 @@ ghost use mathlib.Core.Bool.{cond};
 ghost use lib.ListN.{length, set};
 ghost use Rattle.vocabulary.specs.Those.{some};
 ghost use Rattle.vocabulary.specs.Each.{each};
-ghost use Rattle.row.specs.Cut.{Alongside, Blank, Listed, labelAt, allOf, firstOf, leftAt};
+ghost use Rattle.row.specs.Cut.{Alongside, Stored, labelAt, allOf, firstOf, leftAt};
 
 // A folder's number, from its place.
 pub(crate) fn folder_no(place: usize) -> FolderNo
@@ -85,17 +85,17 @@ fn one_if(b: bool) -> usize
     if b { 1 } else { 0 }
 }
 
-// Lists the folders at stake from the start of an array of zeros, rising, and says how many. Each folder passed is stored after those
+// Lists the folders at stake from the start of an array, rising, and says how many. Each folder passed is stored after those
 // listed and counts if it is at stake, without a branch; so the place after the list may have a number, which is to be cleared.
 pub(crate) fn list_stakes(
     row: &[u8],
     classes: &[u16],
     clients: &[u16],
     o: Label,
-    list: &mut [u16; 512],
+    list: &mut [u16],
 ) -> usize
-    requires { ⌜ Alongside (now row) (now classes) (now clients) × (length (now row) ≤ 512) × Blank (now list) ⌝ }
-    ensures { λ r. ⌜ Listed (now (list .entry)) (allOf Sort.AtStake (now (row .entry)) (now (classes .entry)) (now (clients .entry)) o) (now (list .exit)) r ⌝ }
+    requires { ⌜ Alongside (now row) (now classes) (now clients) × (length (now row) ≤ 512) × (length (now row) ≤ length (now list)) ⌝ }
+    ensures { λ r. ⌜ Stored (now (list .entry)) (allOf Sort.AtStake (now (row .entry)) (now (classes .entry)) (now (clients .entry)) o) (now (list .exit)) r ⌝ }
 {
     let mut n: usize = 0;
     let mut f = 0;
@@ -108,7 +108,7 @@ pub(crate) fn list_stakes(
     n
 }
 
-// Puts 0 at a place, if the list has it.
+// Puts 0 at a place, if the array has it.
 pub(crate) fn clear_at(list: &mut [u16], n: usize)
     ensures { λ r. ⌜ now (list .exit) ≡ set (now (list .entry)) n 0 ⌝ }
 {

@@ -1,51 +1,46 @@
--- `list_lost` meets its contract: what is at stake is lost where lists and folder fit and the kind revokes, and nothing elsewhere.
-use Rattle.row.proofs.Listed.{blank, listed-length, listed-cleared}
-use Rattle.row.proofs.Cut.{fits-first, lost-stakes, lost-none}
-use Rattle.row.proofs.Fitting.{fits-are, folder-listed}
-use Rattle.row.specs.Row.{listOf}
-use mathlib.Core.Path.{sym, ap, _∙_}
+-- `list_lost` meets its contract: a list with too few places gets none.
+use mathlib.Core.Path.{refl}
+use borrow.Author.Tests.{lt-leb, le-leb}
+use Rattle.row.specs.Row.{lostListed}
+use Rattle.row.proofs.Listed.{listed-cleared, stored-none}
+use native.Mathlib.Omega.{arith}
 use borrow.Author.Needs.{needs}
 use Rattle.row.proofs.list_lost.Statement.{statement}
 use Rattle.row.proofs.list_lost.Tie as tie
+use Rattle.row.proofs.list_lost.Reads as reads
+use Rattle.row.proofs.list_lost.Lts as lts
+use Rattle.row.proofs.list_fitting.Reads as list-fitting-reads
+use Rattle.row.proofs.walks.clear_at.Reads as clear-at-reads
 
-fits-requires : tie.Need-fits-requires
-fits-requires c κs = search needs
-
-revokes-requires : tie.Need-revokes-requires
-revokes-requires c κs = search needs
-
-label-of-requires : tie.Need-label-of-requires
-label-of-requires c κs =
-    folder-listed _ _ _ (fits-first _ _ _ (c .before .revokes .result) (c .before .before .fits2 .ensures) (c .if1 .taken))
-
-list-stakes-requires : tie.Need-list-stakes-requires
-list-stakes-requires c κs =
-    let p = fits-are _ _ _ (fits-first _ _ _ (c .before .before .before .revokes .result) (c .before .before .before .before .fits2 .ensures) (c .before .before .if1 .taken)) in (p .0, p .1, blank 512)
-
-slice-aggregate-clear-at : tie.Need-slice-aggregate-clear-at
-slice-aggregate-clear-at c =
-    sym (listed-length (c .before .list-stakes .ensures))
-
+-- src/lib.rt:133:9
 clear-at-requires : tie.Need-clear-at-requires
 clear-at-requires c κs = search needs
 
-returns : tie.Need-returns
-returns c =
-    listed-cleared (c .before .before .before .list-stakes .ensures) (c .before .clear-at .ensures) (lost-stakes _ _ _ _ (c .before .before .before .before .before .before .before .before .fits2 .ensures) (c .before .before .before .before .before .before .before .revokes .ensures) (c .before .before .before .before .before .before .if1 .taken) _ (c .before .before .before .before .before .label-of .ensures))
+-- src/lib.rt:134:9
+same-length : tie.Need-same-length
+same-length c = search needs
 
+-- src/lib.rt:134:9
+returns : tie.Need-returns
+unfolding lostListed
+returns c =
+    rw (lt-leb _ _ (c .before .before .before .before .if1 .taken)) (listed-cleared (stored-none (c .before .before .before .before .before .before .before .before .before .args .list .now)) (c .before .before .clear-at .ensures) refl)
+
+-- src/lib.rt:136:5
+list-fitting-requires : tie.Need-list-fitting-requires
+list-fitting-requires c κs = search needs
+
+-- src/lib.rt:122:1
+same-length-2 : tie.Need-same-length-2
+same-length-2 c = search needs
+
+-- src/lib.rt:122:1
 returns-2 : tie.Need-returns-2
+unfolding lostListed
 returns-2 c =
-    ap listOf (sym (lost-none _ _ _ _ (c .before .before .fits2 .ensures) (c .before .revokes .ensures) (c .if1 .left)))
+    rw (le-leb _ _ (c .before .before .before .before .if1 .left)) (c .before .before .list-fitting .ensures)
 
 pub list-lost-spec : {M : Type 1} → statement M
 list-lost-spec =
     tie.close
-    (tie.spec
-    fits-requires
-    revokes-requires
-    label-of-requires
-    list-stakes-requires
-    slice-aggregate-clear-at
-    clear-at-requires
-    returns
-    returns-2)
+    (tie.spec clear-at-requires same-length returns list-fitting-requires same-length-2 returns-2)
