@@ -4,7 +4,7 @@ pub mod Outcome
 -- The words of demand 3:
 pub mod Wall
 pub mod History
--- Claims:
+-- Claims, and the words that they use:
 pub mod Demand3
 pub mod Papers
 pub mod Session
