@@ -77,7 +77,7 @@ askedAt text place = askedBy (length text) text place
 
 -- ---- the output
 
--- A request's line, and the lines of requests.
+-- The line printed for a request, and the lines printed for several.
 abbrev pub lineText : AnswerLine → List ℕ
 lineText (serialLine serial number list) = serialText serial number list
 lineText (dashLine number) = dashText number

@@ -1,5 +1,5 @@
--- Internal: the output in steps, what is printed before the first request and what each request line prints. No rule of document 01 stands
--- here: `Joined.antt` says that together the steps print the whole output.
+-- The output in steps: what is printed before the first request, and what each request line prints. `Joined.antt` says that together the
+-- steps print the whole output, so no rule of document 01 stands here.
 use Prim.Native.Nat.{ℕ}
 use mathlib.Core.Bool.{Bool, true, false, cond, _||_}
 use mathlib.Core.List.{List, []}

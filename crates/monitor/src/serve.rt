@@ -30,7 +30,8 @@ fn respond(ruling: Ruling) -> Response
     }
 }
 
-// Rows 8, 9 and 20 to 22, in their order; `size` is the length of the log's buffer.
+// Rows 8, 9 and 20 to 22, in their order; `size` is the length of the log's buffer. (Rows 1 and 6, which `row` judges between them, have been
+// passed.)
 fn judge_row(
     row: &[u8],
     classes: &[u16],

@@ -10,19 +10,19 @@ use lib.Seq.{sets, set-set}
 use Rattle.vocabulary.specs.Those.{those}
 use Rattle.vocabulary.proofs.Those.{those-take, those-skip}
 use Rattle.vocabulary.proofs.Sets.{sets-append}
-use Rattle.row.specs.Row.{listedIn}
-use Rattle.row.specs.Cut.{Stored}
+use Rattle.row.specs.Row.{listedAtStart}
+use Rattle.row.specs.Cut.{ListedSoFar}
 
 -- Once the place after the list is cleared, count and array are those of the list.
-pub listed-cleared : {array l list left m : List ℕ} {n : ℕ} → Stored array l list n → left ≡ set list n 0 → m ≡ l →
+pub listed-cleared : {array l list left m : List ℕ} {n : ℕ} → ListedSoFar array l list n → left ≡ set list n 0 → m ≡ l →
     record {
       count = n;
       list = left;
     }
-    ≡ listedIn array m
+    ≡ listedAtStart array m
 listed-cleared s cleared same = rw (cleared, s .cleared, s .counted, same)
 
-pub stored-none : (array : List ℕ) → Stored array [] array 0
+pub stored-none : (array : List ℕ) → ListedSoFar array [] array 0
 stored-none array =
     record {
       cleared = refl;
@@ -30,8 +30,8 @@ stored-none array =
     }
 
 -- The next number is stored at the place after the list, and counts if it passes the test.
-pub stored-next : (array : List ℕ) (p : ℕ → Bool) {list : List ℕ} {n : ℕ} (i : ℕ) → Stored array (those p i) list n →
-    Stored array (those p (i + 1)) (set list n i) (n + cond (p i) 1 0)
+pub stored-next : (array : List ℕ) (p : ℕ → Bool) {list : List ℕ} {n : ℕ} (i : ℕ) → ListedSoFar array (those p i) list n →
+    ListedSoFar array (those p (i + 1)) (set list n i) (n + cond (p i) 1 0)
 stored-next array p {list} {n} i s = at (p i) refl
   where
     -- Whatever stood at the place after the list is written over.
@@ -44,7 +44,7 @@ stored-next array p {list} {n} i s = at (p i) refl
     stored : set list n i ≡ sets array 0 (those p i ++ (i ∷ []))
     stored = put ∙ rw (sets-append, zero-add, ← s .counted)
 
-    at : (b : Bool) → p i ≡ b → Stored array (those p (i + 1)) (set list n i) (n + cond (p i) 1 0)
+    at : (b : Bool) → p i ≡ b → ListedSoFar array (those p (i + 1)) (set list n i) (n + cond (p i) 1 0)
     at true e =
         rw (those-take p i e, e)
         (record {

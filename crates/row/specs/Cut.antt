@@ -10,7 +10,7 @@ use Rattle.vocabulary.specs.Those.{those}
 use Rattle.register.specs.declared.Label.{Label}
 use Rattle.register.specs.Label.{labelOf}
 use Rattle.policy.specs.Rules.{canRead, canWrite, cell, cellFor, reads, writes, revokes}
-use Rattle.row.specs.Row.{listedIn}
+use Rattle.row.specs.Row.{listedAtStart}
 use Rattle.row.specs.declared.rules.Sort.{Sort}
 use Rattle.row.specs.declared.rules.Sort.the-variants.{Rival, Foreign, AtStake}
 
@@ -51,6 +51,6 @@ abbrev pub leftAt : List ℕ → List ℕ → Label → ℕ → ℕ → ℕ → 
 leftAt classes clients o folder kind f c = cellLeft c (labelAt classes clients f) o (eqb f folder) kind
 
 -- The numbers l, listed from the start of an array, n of them; the place after them may have any number yet.
-pub record Stored (array l list : List ℕ) (n : ℕ) : Type 0 where
-  pub cleared : set list n 0 ≡ listedIn array l .list
+pub record ListedSoFar (array l list : List ℕ) (n : ℕ) : Type 0 where
+  pub cleared : set list n 0 ≡ listedAtStart array l .list
   pub counted : n ≡ length l

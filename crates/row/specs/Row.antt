@@ -1,5 +1,6 @@
 -- A request on a row alone: what is answered, what is lost and what is left (document 01, 'The four kinds of request' and 'Where each
--- refusal is checked'). A row may be given with any lists and any folder: rows 1 and 6 of the table judge them.
+-- refusal is checked'). A row may be given with any lists and any folder: rows 1 and 6 of the table judge them. Rows 7 and 8 are not judged here: a
+-- kind other than 1 to 4 asks for nothing, and a cell is read by its two rights. An empty row has no folder, so 6 speaks.
 use Prim.Native.Nat.{ℕ}
 use mathlib.Core.Bool.{Bool, cond, not, _&&_}
 use mathlib.Core.List.{List, [], _∷_}
@@ -48,8 +49,8 @@ pub record Listed : Type 0 where
   pub count : ℕ
   pub list : List ℕ
 
-abbrev pub listedIn : List ℕ → List ℕ → Listed
-listedIn array l =
+abbrev pub listedAtStart : List ℕ → List ℕ → Listed
+listedAtStart array l =
     record {
       count = length l;
       list = set (sets array 0 l) (length l) 0;
@@ -57,7 +58,7 @@ listedIn array l =
 
 -- The folders lost, listed in a lent array; none where it has fewer places than the row.
 unfoldable pub lostListed : List ℕ → Register → List ℕ → ℕ → ℕ → Listed
-lostListed array r row o kind = listedIn array (cond (leb (length row) (length array)) (lostOn r row o kind) [])
+lostListed array r row o kind = listedAtStart array (cond (leb (length row) (length array)) (lostOn r row o kind) [])
 
 -- The row after a grant; the row as it was where lists or folder do not fit it.
 unfoldable pub rowGranted : Register → List ℕ → ℕ → ℕ → List ℕ

@@ -1,5 +1,6 @@
 // A login's row: what the wall says of a request, which write rights a grant takes back, and the row that it leaves (document 01, 'The
-// four kinds of request'). Rows, lists and folders of any lengths and numbers may be given; whether they fit is asked once, before any walk.
+// four kinds of request'). Rows, lists and folders of any lengths and numbers may be given; whether they fit is asked once, before any walk. Kind and cells
+// are judged by the caller.
 use ids::FolderNo;
 use rules::Sort;
 ghost use Prim.Native.Nat.{_≤_, _<_};
@@ -8,7 +9,7 @@ ghost use lib.ListN.{length};
 ghost use Rattle.vocabulary.specs.Those.{some};
 ghost use Rattle.register.specs.Lent.{lentFolders};
 ghost use Rattle.policy.specs.Outcome.{wallAnswer};
-ghost use Rattle.row.specs.Row.{listsFit, fitting, rowAnswer, rulingAnswer, ruled, lostOn, listedIn, lostListed, rowGranted};
+ghost use Rattle.row.specs.Row.{listsFit, fitting, rowAnswer, rulingAnswer, ruled, lostOn, listedAtStart, lostListed, rowGranted};
 ghost use Rattle.row.specs.Cut.{Alongside, labelAt};
 
 mod rules; // the rules on one cell and two labels
@@ -105,7 +106,7 @@ fn list_fitting(
     list: &mut [u16],
 ) -> usize
     requires { ⌜ length (now row) ≤ length (now list) ⌝ }
-    ensures { λ r. ⌜ record { count = r; list = now (list .exit) } ≡ listedIn (now (list .entry)) (lostOn (lentFolders classes clients) (now (row .entry)) (folder .0) kind) ⌝ }
+    ensures { λ r. ⌜ record { count = r; list = now (list .exit) } ≡ listedAtStart (now (list .entry)) (lostOn (lentFolders classes clients) (now (row .entry)) (folder .0) kind) ⌝ }
 {
     if fits(row, classes, clients, folder) & rules::revokes(kind) {
         let o = walks::label_of(classes, clients, folder);

@@ -11,7 +11,7 @@ ghost use mathlib.Core.Bool.{cond};
 ghost use lib.ListN.{length, set};
 ghost use Rattle.vocabulary.specs.Those.{some};
 ghost use Rattle.vocabulary.specs.Each.{each};
-ghost use Rattle.row.specs.Cut.{Alongside, Stored, labelAt, allOf, firstOf, leftAt};
+ghost use Rattle.row.specs.Cut.{Alongside, ListedSoFar, labelAt, allOf, firstOf, leftAt};
 
 // A folder's number, from its place.
 pub(crate) fn folder_no(place: usize) -> FolderNo
@@ -95,7 +95,7 @@ pub(crate) fn list_stakes(
     list: &mut [u16],
 ) -> usize
     requires { ⌜ Alongside (now row) (now classes) (now clients) × (length (now row) ≤ 512) × (length (now row) ≤ length (now list)) ⌝ }
-    ensures { λ r. ⌜ Stored (now (list .entry)) (allOf Sort.AtStake (now (row .entry)) (now (classes .entry)) (now (clients .entry)) o) (now (list .exit)) r ⌝ }
+    ensures { λ r. ⌜ ListedSoFar (now (list .entry)) (allOf Sort.AtStake (now (row .entry)) (now (classes .entry)) (now (clients .entry)) o) (now (list .exit)) r ⌝ }
 {
     let mut n: usize = 0;
     let mut f = 0;

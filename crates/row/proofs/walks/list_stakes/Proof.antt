@@ -4,7 +4,7 @@ use mathlib.Core.Path.{_≡_, refl}
 use lib.ListN.{length, length-set}
 use Rattle.vocabulary.specs.Those.{those}
 use Rattle.row.specs.declared.rules.Sort.{Sort}
-use Rattle.row.specs.Cut.{ofSortAt, Stored}
+use Rattle.row.specs.Cut.{ofSortAt, ListedSoFar}
 use Rattle.row.proofs.Listed.{stored-none, stored-next}
 use native.Mathlib.Omega.{arith}
 use borrow.Author.Needs.{needs}
@@ -18,7 +18,7 @@ use Rattle.row.proofs.walks.one_if.Reads as one-if-reads
 
 abbrev Inv-loop : tie.InvT-loop
 Inv-loop row classes clients o list₀ n₀ f₀ list n f =
-    (f ≤ length row) × (length list ≡ length list₀) × ((n ≤ f) × Stored list₀ (those (ofSortAt Sort.AtStake row classes clients o) f) list n)
+    (f ≤ length row) × (length list ≡ length list₀) × ((n ≤ f) × ListedSoFar list₀ (those (ofSortAt Sort.AtStake row classes clients o) f) list n)
 
 abbrev μ-loop : tie.MeasureT-loop
 μ-loop row classes clients o list₀ n₀ f₀ list n f =
