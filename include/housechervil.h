@@ -25,8 +25,8 @@
  *   A buffer that is written overlaps with no other list or buffer of the same call. No length is above PTRDIFF_MAX bytes.
  *
  * ANSWERS
- *   `number` is the answer's number in the rules; it has a name below. Values that an answer does not carry are 0. Everywhere a
- *   refusal changes no byte, unless its text says so.
+ *   `number` is the answer's number in the rules, which have none for a step's record and end; each has a name below. Values that
+ *   an answer does not carry are 0. Everywhere a refusal changes no byte, unless its text says so.
  *
  * A FULL LOG
  *   A request whose record does not fit is answered 30 and changes nothing; with HC_RECORD_MAX bytes left it fits. To rotate the

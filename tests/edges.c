@@ -1,5 +1,5 @@
-/* Requests and register checks on the edges of document 01 ('More edges' and the refusal table), through the C interface: what they
-   answer and leave, one to a line. The file edges.stdout has what they must print. */
+/* Requests and register checks on the edges of document 01 ('More edges' and the refusal table; docs/RULES.md has them), through the C
+   interface: what they answer and leave, one to a line. The file edges.stdout has what they must print. */
 #include <stdio.h>
 #include <string.h>
 

@@ -10,7 +10,7 @@ use std::process::exit;
 
 const VARIABLE: &str = "HOUSECHERVIL_LIB_DIR";
 
-fn main() {
+pub fn main() {
     println!("cargo:rerun-if-changed=build.rs");
     println!("cargo:rerun-if-env-changed={VARIABLE}");
     if let Err(message) = link() {

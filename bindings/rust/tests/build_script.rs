@@ -4,8 +4,11 @@
 #[path = "../build.rs"]
 mod build_script;
 
+use std::env;
 use std::ffi::OsString;
-use std::path::Path;
+use std::fs;
+use std::path::{Path, PathBuf};
+use std::process::{Command, Output};
 
 use build_script::{built_for, directory, present};
 
@@ -35,9 +38,8 @@ fn relative_and_empty_paths_are_refused() {
 #[test]
 fn unset_means_the_repository() {
     let found = directory(None).unwrap();
-    assert!(found.is_absolute());
+    assert!(found.is_absolute() && found.starts_with(env!("CARGO_MANIFEST_DIR")));
     assert!(found.ends_with("../../target/staticlib"));
-    assert!(found.starts_with(env!("CARGO_MANIFEST_DIR")));
 }
 
 #[test]
@@ -54,4 +56,61 @@ fn a_missing_library_is_named() {
     let message = present(Path::new("/no/such/place/libhousechervil.a")).unwrap_err();
     assert!(message.starts_with("/no/such/place/libhousechervil.a is missing."), "{message}");
     assert!(message.contains("rt staticlib housechervil") && message.contains("HOUSECHERVIL_LIB_DIR"), "{message}");
+}
+
+// ---------------------------------------------------------------- the whole script, in a process of its own
+
+/// What `script` runs in another process; for anyone else it does nothing.
+#[test]
+#[ignore = "it is the build script, which other tests run"]
+fn build_script_itself() {
+    // Cargo sets this for build scripts alone.
+    if env::var_os("CARGO_CFG_TARGET_ARCH").is_some() {
+        build_script::main();
+    }
+}
+
+/// The script, run as cargo would run it, with the variable set.
+fn script(variable: &Path) -> Output {
+    Command::new(env::current_exe().unwrap())
+        .args(["--exact", "build_script_itself", "--ignored", "--nocapture"])
+        .env("CARGO_CFG_TARGET_ARCH", "x86_64")
+        .env("CARGO_CFG_TARGET_OS", "linux")
+        .env("HOUSECHERVIL_LIB_DIR", variable)
+        .output()
+        .unwrap()
+}
+
+/// A directory of this test alone that holds a file of the library's name.
+fn with_library() -> PathBuf {
+    let directory = Path::new(env!("CARGO_TARGET_TMPDIR")).join("build_script");
+    fs::create_dir_all(&directory).unwrap();
+    fs::write(directory.join("libhousechervil.a"), "").unwrap();
+    directory.canonicalize().unwrap()
+}
+
+#[test]
+fn the_script_links_what_is_named() {
+    let directory = with_library();
+    let output = script(&directory);
+    let printed = String::from_utf8(output.stdout).unwrap();
+    assert!(output.status.success(), "{printed}");
+    let line = |wanted: String| assert!(printed.lines().any(|line| line == wanted), "{wanted} in {printed}");
+    line(format!("cargo:rustc-link-search=native={}", directory.display()));
+    line("cargo:rustc-link-lib=static=housechervil".to_string());
+}
+
+#[test]
+fn the_script_ends_with_a_message() {
+    for (variable, message) in [
+        ("target/staticlib", "housechervil: HOUSECHERVIL_LIB_DIR is a relative path, target/staticlib, "),
+        ("", "housechervil: HOUSECHERVIL_LIB_DIR is empty. "),
+        ("/no/such/place", "housechervil: /no/such/place/libhousechervil.a is missing."),
+    ] {
+        let output = script(Path::new(variable));
+        let said = String::from_utf8(output.stderr).unwrap();
+        assert_eq!(output.status.code(), Some(1), "{said}");
+        assert!(said.starts_with(message), "{said}");
+        assert!(!String::from_utf8(output.stdout).unwrap().contains("rustc-link"));
+    }
 }
