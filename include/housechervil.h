@@ -67,7 +67,7 @@
 #define HC_GRANTED 0  /* a request, and the answer in a record */
 #define HC_ACCEPTED 0 /* the register check, packing, unpacking, the whole-log check, a number */
 
-/* Refusals: a number means the same wherever it is answered. Those of the register, the log and packing have its name in theirs. */
+/* Refusals: a number means the same wherever it is answered. */
 #define HC_REGISTER_SIZES 1
 #define HC_REGISTER_LONE_ZERO 2
 #define HC_REGISTER_TWO_CLASSES 3

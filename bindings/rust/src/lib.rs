@@ -44,8 +44,8 @@
 //! # Building
 //!
 //! The build script looks for `libhousechervil.a` in `target/staticlib` at the repository's root, where
-//! `rt staticlib housechervil` puts it, or in the directory that the environment variable `HOUSECHERVIL_LIB_DIR` names by an absolute
-//! path. The library is for x86-64 Linux. The crate has no dependencies and asks for Rust 1.63 or later.
+//! `rt staticlib housechervil` puts it, or in the directory that the environment variable `HOUSECHERVIL_LIB_DIR` names, by an
+//! absolute path. The library is for x86-64 Linux. The crate has no dependencies and asks for Rust 1.63 or later.
 //!
 //! # What there is
 //!

@@ -58,7 +58,7 @@ pub enum Refusal {
     MatrixLength,
     /// 5: no such login.
     Login {
-        /// The login asked for.
+        /// The login that asked.
         asked: LoginNo,
     },
     /// 6: no such folder.
@@ -138,7 +138,7 @@ impl Refusal {
         matches!(self, Refusal::Rival { .. } | Refusal::Foreign { .. } | Refusal::AtStake { .. })
     }
 
-    /// The refusal of these numbers, of what was asked for.
+    /// The refusal of these numbers, which answer this request.
     #[inline]
     fn from_numbers(number: u16, first: u16, second: u16, request: Request) -> Option<Refusal> {
         let folder = FolderNo(first);
