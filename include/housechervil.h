@@ -1,8 +1,11 @@
 /*
  * Housechervil: the access monitor of a reading room. This is the C face of the static library `housechervil`
- * (`rt staticlib housechervil` writes target/staticlib/libhousechervil.a, for x86-64). Every function behind it is proved to answer,
- * and to leave in every buffer lent, exactly what the scope document ("document 01") says, on every input. No call leans on an
- * earlier check.
+ * (`rt staticlib housechervil` writes target/staticlib/libhousechervil.a). Every function behind it is proved to answer, and to
+ * leave in every buffer lent, exactly what the rules say, on every input; they stand in the repository's docs/RULES.md. No call
+ * leans on an earlier check.
+ *
+ * Library and header are for x86-64 Linux. The header is C11 and C++17, and was tried with gcc and g++ 12.2 and with clang and
+ * clang++ 14.0.
  *
  * THE HOUSE
  *   Logins are numbered from 0; there are P of them, 1 to 128: the parameter `logins`. Folders are numbered from 0; there are F of
@@ -22,8 +25,14 @@
  *   A buffer that is written overlaps with no other list or buffer of the same call. No length is above PTRDIFF_MAX bytes.
  *
  * ANSWERS
- *   `number` is document 01's number of the answer. Values that an answer does not carry are 0. Everywhere a refusal changes no
- *   byte, unless its text says so.
+ *   `number` is the answer's number in the rules, which have none for a step's record and end; each has a name below. Values that
+ *   an answer does not carry are 0. Everywhere a refusal changes no byte, unless its text says so.
+ *
+ * A FULL LOG
+ *   A request whose record does not fit is answered 30 and changes nothing; with HC_RECORD_MAX bytes left it fits. To rotate the
+ *   log, keep its bytes up to the end elsewhere, set the end to 0 and go on with the same matrix and the same serial: the rights
+ *   are all in the matrix, and the next record's serial follows the kept log's last. Kept logs, one behind the other in their
+ *   order, pass the whole-log check as one.
  */
 #ifndef HOUSECHERVIL_H
 #define HOUSECHERVIL_H
@@ -31,10 +40,112 @@
 #include <stddef.h>
 #include <stdint.h>
 
+/* The version of header, crate and CHANGELOG.md. */
+#define HC_VERSION "0.1.0"
+#define HC_VERSION_MAJOR 0
+#define HC_VERSION_MINOR 1
+#define HC_VERSION_PATCH 0
+
 #define HC_LOGINS_MAX 128   /* the most logins */
 #define HC_FOLDERS_MAX 512  /* the most folders */
 #define HC_MATRIX_MAX 65536 /* the bytes of the largest matrix */
 #define HC_RECORD_MAX 904   /* the bytes of the longest record: with this much room left a request is never answered 30 */
+
+/* ---- names; the tables at the functions say when each answer is given */
+
+/* The kinds of request. */
+#define HC_READ 1
+#define HC_CAREFUL_READ 2
+#define HC_WRITE 3
+#define HC_READ_AND_WRITE 4
+
+/* The rights in a cell of the matrix, one bit each. They are not the kinds. */
+#define HC_MAY_READ 1
+#define HC_MAY_WRITE 2
+
+/* Nothing is refused. */
+#define HC_GRANTED 0  /* a request, and the answer in a record */
+#define HC_ACCEPTED 0 /* the register check, packing, unpacking, the whole-log check, a number */
+
+/* Refusals: a number means the same wherever it is answered. */
+#define HC_REGISTER_SIZES 1
+#define HC_REGISTER_LONE_ZERO 2
+#define HC_REGISTER_TWO_CLASSES 3
+#define HC_MATRIX_LENGTH 4
+#define HC_NO_LOGIN 5
+#define HC_NO_FOLDER 6
+#define HC_NO_KIND 7
+#define HC_ROW_CELL 8
+#define HC_LOG_END_PAST_BUFFER 9
+#define HC_RIVAL 20
+#define HC_FOREIGN 21
+#define HC_AT_STAKE 22
+#define HC_LOG_FULL 30
+#define HC_LOG_PLACE_PAST_END 50
+#define HC_LOG_CUT_SHORT 51
+#define HC_LOG_FORM 52
+#define HC_LOG_RANGE 53
+#define HC_LOG_LIST 54
+#define HC_LOG_SERIAL 55
+#define HC_PACK_CELL 60
+#define HC_PACK_LENGTHS 61
+#define HC_PACK_UNUSED_BITS 62
+
+/* A step of the log reader that is no refusal. This 1 is not the register's: no step answers HC_REGISTER_SIZES. */
+#define HC_STEP_RECORD 0
+#define HC_STEP_END 1
+
+/* How a first serial stands to a second. */
+#define HC_SERIAL_SAME 0
+#define HC_SERIAL_EARLIER 1
+#define HC_SERIAL_UNDECIDED 2
+#define HC_SERIAL_LATER 3
+
+/*
+ * The words of an answer, never null. 0 is 'granted', as in a request and in a record; HC_STEP_RECORD and HC_STEP_END are not
+ * answers in this sense. (`unused`: clang warns of a function that nothing uses when it is given the header alone.)
+ */
+__attribute__((unused)) static inline const char *hc_answer_words(uint16_t number)
+{
+    switch (number) {
+    case HC_GRANTED: return "granted";
+    case HC_REGISTER_SIZES: return "logins or folders beyond their range, or lists of unequal length";
+    case HC_REGISTER_LONE_ZERO: return "exactly one of class and client is 0";
+    case HC_REGISTER_TWO_CLASSES: return "a client has two classes";
+    case HC_MATRIX_LENGTH: return "the matrix's length is not logins times folders";
+    case HC_NO_LOGIN: return "there is no such login";
+    case HC_NO_FOLDER: return "there is no such folder";
+    case HC_NO_KIND: return "there is no such kind of request";
+    case HC_ROW_CELL: return "a cell of the login's row is above 3";
+    case HC_LOG_END_PAST_BUFFER: return "the log's end lies past its buffer";
+    case HC_RIVAL: return "the login may read a folder of a rival";
+    case HC_FOREIGN: return "the login may read a folder of another client";
+    case HC_AT_STAKE: return "a write right would be lost";
+    case HC_LOG_FULL: return "the record is longer than the room left in the log";
+    case HC_LOG_PLACE_PAST_END: return "the place is past the log's end";
+    case HC_LOG_CUT_SHORT: return "the log ends inside a record";
+    case HC_LOG_FORM: return "a number is not in its shortest form, or is above 65,535";
+    case HC_LOG_RANGE: return "a login, folder, kind or answer that no record has";
+    case HC_LOG_LIST: return "a count or a list that no record has";
+    case HC_LOG_SERIAL: return "the serial is not the one after its predecessor's";
+    case HC_PACK_CELL: return "a cell is above 3";
+    case HC_PACK_LENGTHS: return "the packed length is not one quarter of the cells, rounded up";
+    case HC_PACK_UNUSED_BITS: return "unused bits of the last packed byte are set";
+    default: return "no answer that this header knows";
+    }
+}
+
+/* The words of a kind, never null. */
+__attribute__((unused)) static inline const char *hc_kind_words(uint16_t kind)
+{
+    switch (kind) {
+    case HC_READ: return "read";
+    case HC_CAREFUL_READ: return "careful read";
+    case HC_WRITE: return "write";
+    case HC_READ_AND_WRITE: return "read and write";
+    default: return "no kind of request";
+    }
+}
 
 #ifdef __cplusplus
 extern "C" {
@@ -64,7 +175,7 @@ hc_register_answer hc_register_check(size_t logins, const uint16_t *classes, siz
 /* ---- the request */
 
 /*
- * A request of `login` for `folder`. The kinds are 1 read, 2 careful read, 3 write, 4 read and write.
+ * A request of `login` for `folder`. The kinds are HC_READ, HC_CAREFUL_READ, HC_WRITE and HC_READ_AND_WRITE, 1 to 4.
  *
  *   Rival: a folder that the login may read, of the asked folder's class and of another client.
  *   Foreign: a folder that the login may read, not sanitised, whose client is not the asked folder's.
@@ -164,8 +275,8 @@ hc_placed hc_unpack(const uint8_t *packed, size_t packed_len, uint8_t *cells, si
  * at 0; only a record moves the reader, to its `place`.
  *
  *   number  when                                                            place
- *   0       a record                                                        the byte after it
- *   1       the end: place is log_len                                       log_len
+ *   0       a record (HC_STEP_RECORD)                                       the byte after it
+ *   1       the end: place is log_len (HC_STEP_END)                         log_len
  *   50      place is past the end                                           the reader's place
  *   51      bytes end inside the record                                     the first byte of the field at fault
  *   52      a number not in its shortest form, or above 65,535              the same

@@ -1,5 +1,5 @@
-/* Requests and register checks on the edges of document 01 ('More edges' and the refusal table), through the C interface: what they
-   answer and leave, one to a line. The file edges.stdout has what they must print. */
+/* Requests and register checks on the edges of document 01 ('More edges' and the refusal table; docs/RULES.md has them), through the C
+   interface: what they answer and leave, one to a line. The file edges.stdout has what they must print. */
 #include <stdio.h>
 #include <string.h>
 
@@ -13,9 +13,15 @@ static void list(const char *name, const uint8_t *bytes, size_t n) {
 /* An answer's number and what it carries. */
 static void answer(unsigned number, unsigned first, unsigned second, unsigned count) {
     printf(" %u", number);
-    if (number == 0) printf(" %u", count);
-    if (number == 2 || number == 3 || number == 8 || (20 <= number && number <= 22)) printf(" %u", first);
-    if (number == 3) printf(" %u", second);
+    switch (number) {
+    case HC_GRANTED: printf(" %u", count); break;
+    case HC_REGISTER_TWO_CLASSES: printf(" %u %u", first, second); break;
+    case HC_REGISTER_LONE_ZERO:
+    case HC_ROW_CELL:
+    case HC_RIVAL:
+    case HC_FOREIGN:
+    case HC_AT_STAKE: printf(" %u", first); break;
+    }
 }
 
 static void tell(hc_reply r) {
@@ -43,70 +49,70 @@ typedef struct {
 
 static const ask_case asks[] = {
     /* each kind on a blank matrix, and a right asked for again */
-    {"read", {0}, 0, 1, 1, 0, 7},
-    {"careful read", {0}, 0, 1, 2, 0, 7},
-    {"write", {0}, 0, 1, 3, 0, 7},
-    {"read and write", {0}, 0, 1, 4, 0, 7},
-    {"asked again", {0, 3, 0, 0, 3}, 0, 1, 4, 0, 7},
+    {"read", {0}, 0, 1, HC_READ, 0, 7},
+    {"careful read", {0}, 0, 1, HC_CAREFUL_READ, 0, 7},
+    {"write", {0}, 0, 1, HC_WRITE, 0, 7},
+    {"read and write", {0}, 0, 1, HC_READ_AND_WRITE, 0, 7},
+    {"asked again", {0, 3, 0, 0, 3}, 0, 1, HC_READ_AND_WRITE, 0, 7},
     /* write rights taken back, and not */
-    {"read takes back", {2, 2, 0, 2, 3}, 0, 1, 1, 0, 7},
-    {"read and write takes back", {2, 0, 2, 2, 1}, 0, 4, 4, 0, 7},
-    {"sanitised loses write", {3, 0, 0, 0, 0}, 0, 3, 1, 0, 7},
-    {"both becomes read", {0, 3, 0, 0, 0}, 0, 3, 1, 0, 7},
-    {"sanitised read takes nothing", {0, 2, 2, 2, 2}, 0, 0, 1, 0, 7},
-    {"sanitised careful read", {0, 2, 2, 2, 2}, 0, 0, 2, 0, 7},
-    {"write takes nothing", {2, 0, 0, 2, 0}, 0, 1, 3, 0, 7},
-    {"writes gathered", {0, 2, 0, 2, 0}, 0, 2, 3, 0, 7},
+    {"read takes back", {2, 2, 0, 2, 3}, 0, 1, HC_READ, 0, 7},
+    {"read and write takes back", {2, 0, 2, 2, 1}, 0, 4, HC_READ_AND_WRITE, 0, 7},
+    {"sanitised loses write", {3, 0, 0, 0, 0}, 0, 3, HC_READ, 0, 7},
+    {"both becomes read", {0, 3, 0, 0, 0}, 0, 3, HC_READ, 0, 7},
+    {"sanitised read takes nothing", {0, 2, 2, 2, 2}, 0, 0, HC_READ, 0, 7},
+    {"sanitised careful read", {0, 2, 2, 2, 2}, 0, 0, HC_CAREFUL_READ, 0, 7},
+    {"write takes nothing", {2, 0, 0, 2, 0}, 0, 1, HC_WRITE, 0, 7},
+    {"writes gathered", {0, 2, 0, 2, 0}, 0, 2, HC_WRITE, 0, 7},
     /* 20, 21 and 22, and the smallest folder */
-    {"rival", {0, 0, 1, 0, 0}, 0, 1, 1, 0, 7},
-    {"smallest rival", {0, 1, 0, 0, 1}, 0, 2, 1, 0, 7},
-    {"foreign on write", {0, 0, 0, 1, 0}, 0, 1, 3, 0, 7},
-    {"foreign on both", {0, 0, 0, 1, 0}, 0, 1, 4, 0, 7},
-    {"foreign to sanitised", {0, 0, 0, 1, 0}, 0, 0, 3, 0, 7},
-    {"sanitised is not foreign", {1, 0, 0, 0, 0}, 0, 1, 3, 0, 7},
-    {"at stake", {2, 0, 0, 2, 0}, 0, 1, 2, 0, 7},
+    {"rival", {0, 0, 1, 0, 0}, 0, 1, HC_READ, 0, 7},
+    {"smallest rival", {0, 1, 0, 0, 1}, 0, 2, HC_READ, 0, 7},
+    {"foreign on write", {0, 0, 0, 1, 0}, 0, 1, HC_WRITE, 0, 7},
+    {"foreign on both", {0, 0, 0, 1, 0}, 0, 1, HC_READ_AND_WRITE, 0, 7},
+    {"foreign to sanitised", {0, 0, 0, 1, 0}, 0, 0, HC_WRITE, 0, 7},
+    {"sanitised is not foreign", {1, 0, 0, 0, 0}, 0, 1, HC_WRITE, 0, 7},
+    {"at stake", {2, 0, 0, 2, 0}, 0, 1, HC_CAREFUL_READ, 0, 7},
     /* 20 before 22, and before a smaller folder of 21 */
-    {"20 before 22", {2, 0, 1, 2, 0}, 0, 1, 2, 0, 7},
-    {"20 before 21 on write", {0, 0, 0, 1, 1}, 0, 2, 3, 0, 7},
-    {"20 before 21 on both", {0, 0, 0, 1, 1}, 0, 2, 4, 0, 7},
+    {"20 before 22", {2, 0, 1, 2, 0}, 0, 1, HC_CAREFUL_READ, 0, 7},
+    {"20 before 21 on write", {0, 0, 0, 1, 1}, 0, 2, HC_WRITE, 0, 7},
+    {"20 before 21 on both", {0, 0, 0, 1, 1}, 0, 2, HC_READ_AND_WRITE, 0, 7},
     /* rows that no blank matrix leads to */
-    {"rivals together, one again", {0, 1, 1, 0, 0}, 0, 1, 1, 0, 7},
-    {"rivals together, another class", {0, 1, 1, 0, 0}, 0, 3, 1, 0, 7},
-    {"rivals together, sanitised", {0, 1, 1, 0, 0}, 0, 0, 3, 0, 7},
-    {"reads one writes another, write", {0, 1, 0, 2, 0}, 0, 1, 3, 0, 7},
-    {"reads one writes another, both", {0, 1, 0, 2, 0}, 0, 1, 4, 0, 7},
-    {"reads one writes another, again", {0, 1, 0, 2, 0}, 0, 3, 3, 0, 7},
-    {"cell 4", {0, 0, 4, 0, 255}, 0, 1, 1, 0, 7},
+    {"rivals together, one again", {0, 1, 1, 0, 0}, 0, 1, HC_READ, 0, 7},
+    {"rivals together, another class", {0, 1, 1, 0, 0}, 0, 3, HC_READ, 0, 7},
+    {"rivals together, sanitised", {0, 1, 1, 0, 0}, 0, 0, HC_WRITE, 0, 7},
+    {"reads one writes another, write", {0, 1, 0, 2, 0}, 0, 1, HC_WRITE, 0, 7},
+    {"reads one writes another, both", {0, 1, 0, 2, 0}, 0, 1, HC_READ_AND_WRITE, 0, 7},
+    {"reads one writes another, again", {0, 1, 0, 2, 0}, 0, 3, HC_WRITE, 0, 7},
+    {"cell 4", {0, 0, 4, 0, 255}, 0, 1, HC_READ, 0, 7},
     /* the rows of other logins are not consulted, and stay */
-    {"other row", {0, 0, 0, 0, 0, 0, 0, 1, 0, 0}, 0, 1, 1, 0, 0},
-    {"every right", {3, 3, 3, 3, 3, 3, 3, 3, 3, 3}, 1, 3, 1, 0, 0},
-    {"cell 255", {0, 0, 0, 0, 0, 0, 0, 0, 0, 255}, 1, 1, 1, 0, 0},
-    {"others above 3", {9, 99, 4, 255, 7, 0, 0, 0, 0, 2}, 1, 2, 4, 0, 0},
+    {"other row", {0, 0, 0, 0, 0, 0, 0, 1, 0, 0}, 0, 1, HC_READ, 0, 0},
+    {"every right", {3, 3, 3, 3, 3, 3, 3, 3, 3, 3}, 1, 3, HC_READ, 0, 0},
+    {"cell 255", {0, 0, 0, 0, 0, 0, 0, 0, 0, 255}, 1, 1, HC_READ, 0, 0},
+    {"others above 3", {9, 99, 4, 255, 7, 0, 0, 0, 0, 2}, 1, 2, HC_READ_AND_WRITE, 0, 0},
     /* 5 to 9, and which comes first */
-    {"login 2", {0}, 2, 1, 1, 0, 0},
-    {"folder 5", {0}, 0, 5, 1, 0, 7},
+    {"login 2", {0}, 2, 1, HC_READ, 0, 0},
+    {"folder 5", {0}, 0, 5, HC_READ, 0, 7},
     {"kind 0", {0}, 0, 1, 0, 0, 7},
     {"kind 5", {0}, 0, 1, 5, 0, 7},
     {"5 before 6", {4}, 2, 5, 0, 0, 0},
     {"6 before 7", {4}, 0, 5, 0, 17, 0},
     {"7 before 8", {4}, 0, 1, 5, 17, 0},
-    {"8 before 9", {4, 0, 1, 0, 0}, 0, 1, 1, 17, 0},
+    {"8 before 9", {4, 0, 1, 0, 0}, 0, 1, HC_READ, 17, 0},
     /* the log's end: past its buffer, and at its length */
-    {"9 before 20", {0, 0, 1, 0, 0}, 0, 1, 1, 17, 3},
-    {"end far past", {0}, 0, 1, 1, SIZE_MAX, 3},
-    {"end at length", {0, 0, 0, 2, 0}, 0, 1, 1, 16, 3},
+    {"9 before 20", {0, 0, 1, 0, 0}, 0, 1, HC_READ, 17, 3},
+    {"end far past", {0}, 0, 1, HC_READ, SIZE_MAX, 3},
+    {"end at length", {0, 0, 0, 2, 0}, 0, 1, HC_READ, 16, 3},
     /* a record in just enough room and in one byte less */
-    {"grant of 7 in 7", {0, 0, 0, 2, 0}, 0, 1, 1, 9, 3},
-    {"grant of 7 in 6", {0, 0, 0, 2, 0}, 0, 1, 1, 10, 3},
-    {"20 of 7 in 7", {0, 0, 1, 0, 0}, 0, 1, 1, 9, 3},
-    {"20 of 7 in 6", {0, 0, 1, 0, 0}, 0, 1, 1, 10, 3},
-    {"21 of 7 in 6", {0, 0, 0, 1, 0}, 0, 1, 3, 10, 3},
-    {"22 of 7 in 6", {0, 0, 0, 2, 0}, 0, 1, 2, 10, 3},
+    {"grant of 7 in 7", {0, 0, 0, 2, 0}, 0, 1, HC_READ, 9, 3},
+    {"grant of 7 in 6", {0, 0, 0, 2, 0}, 0, 1, HC_READ, 10, 3},
+    {"20 of 7 in 7", {0, 0, 1, 0, 0}, 0, 1, HC_READ, 9, 3},
+    {"20 of 7 in 6", {0, 0, 1, 0, 0}, 0, 1, HC_READ, 10, 3},
+    {"21 of 7 in 6", {0, 0, 0, 1, 0}, 0, 1, HC_WRITE, 10, 3},
+    {"22 of 7 in 6", {0, 0, 0, 2, 0}, 0, 1, HC_CAREFUL_READ, 10, 3},
     /* serials of each length, and the last */
-    {"grant of 6 in 6", {0}, 0, 1, 1, 10, 127},
-    {"serial 128", {0}, 0, 1, 1, 9, 128},
-    {"serial 128 in 6", {0}, 0, 1, 1, 10, 128},
-    {"serial 65535", {0, 0, 1, 0, 0}, 0, 1, 4, 4, 65535},
+    {"grant of 6 in 6", {0}, 0, 1, HC_READ, 10, 127},
+    {"serial 128", {0}, 0, 1, HC_READ, 9, 128},
+    {"serial 128 in 6", {0}, 0, 1, HC_READ, 10, 128},
+    {"serial 65535", {0, 0, 1, 0, 0}, 0, 1, HC_READ_AND_WRITE, 4, 65535},
 };
 
 static void ask(ask_case c) {
@@ -128,12 +134,12 @@ static void check(const char *name, size_t logins, const uint16_t *classes, size
     memset(log, 170, sizeof log);
     hc_register_answer v = hc_register_check(logins, classes, classes_len, clients, clients_len);
     printf("%s check", name);
-    if (v.number == 0) {
+    if (v.number == HC_ACCEPTED) {
         printf(" 0");
     } else {
         answer(v.number, v.first, v.second, 0);
     }
-    tell(hc_request(logins, classes, classes_len, clients, clients_len, matrix, size, 0, 0, 1, log, sizeof log, 0, 0));
+    tell(hc_request(logins, classes, classes_len, clients, clients_len, matrix, size, 0, 0, HC_READ, log, sizeof log, 0, 0));
     printf("\n");
 }
 
@@ -174,7 +180,7 @@ static void largest(const char *name, uint16_t login, uint16_t folder) {
     memset(matrix, 0, sizeof matrix);
     memset(log, 170, sizeof log);
     for (size_t i = 0; i < 512; i++) ones[i] = 1;
-    hc_reply r = hc_request(128, ones, 512, ones, 512, matrix, sizeof matrix, login, folder, 4, log, sizeof log, 0, 0);
+    hc_reply r = hc_request(128, ones, 512, ones, 512, matrix, sizeof matrix, login, folder, HC_READ_AND_WRITE, log, sizeof log, 0, 0);
     printf("%s", name);
     tell(r);
     list(" cells", matrix + 65534, 2);
@@ -189,7 +195,7 @@ static void longest(const char *name, size_t end) {
     for (size_t i = 0; i < 512; i++) labels[i] = i == 511 ? 2 : 1;
     memset(matrix, 2, sizeof matrix);
     memset(log, 170, sizeof log);
-    hc_reply r = hc_request(1, labels, 512, labels, 512, matrix, 512, 0, 511, 1, log, sizeof log, end, 65535);
+    hc_reply r = hc_request(1, labels, 512, labels, 512, matrix, 512, 0, 511, HC_READ, log, sizeof log, end, 65535);
     printf("%s", name);
     tell(r);
     list(" cells", matrix, 4);
@@ -206,8 +212,9 @@ static void table(void) {
         const char *name;
         uint16_t kind, login, folder;
     } rows[] = {
-        {"L0", 3, 0, 1}, {"L1", 3, 0, 3}, {"L2", 2, 0, 1}, {"L3", 1, 0, 1}, {"L4", 1, 0, 2}, {"L5", 1, 0, 0},   {"L6", 3, 0, 4},
-        {"L7", 1, 0, 3}, {"L8", 3, 0, 4}, {"L9", 4, 1, 2}, {"L10", 3, 1, 0}, {"L11", 1, 1, 4}, {"end", 1, 2, 0},
+        {"L0", HC_WRITE, 0, 1}, {"L1", HC_WRITE, 0, 3}, {"L2", HC_CAREFUL_READ, 0, 1}, {"L3", HC_READ, 0, 1}, {"L4", HC_READ, 0, 2},
+        {"L5", HC_READ, 0, 0}, {"L6", HC_WRITE, 0, 4}, {"L7", HC_READ, 0, 3}, {"L8", HC_WRITE, 0, 4},
+        {"L9", HC_READ_AND_WRITE, 1, 2}, {"L10", HC_WRITE, 1, 0}, {"L11", HC_READ, 1, 4}, {"end", HC_READ, 2, 0},
     };
     uint8_t matrix[10] = {0}, log[128];
     size_t end = 0;

@@ -9,13 +9,18 @@
 #include <housechervil.h>
 #include <stdio.h>
 
-enum { LOGINS = 2, FOLDERS = 5, READ = 1, CAREFUL_READ = 2, WRITE = 3, READ_AND_WRITE = 4 };
+enum { LOGINS = 2, FOLDERS = 5 };
 
 static const char *const login_names[LOGINS] = {"Ada", "Ben"};
 static const char *const folder_names[FOLDERS] = {
     "the public shelf", "Aster Bank, loans", "Birch Bank, merger", "Copper Oil, wells", "Aster Bank, staff",
 };
-static const char *const kind_names[] = {"", "to read", "to read, keeping all write rights,", "to write", "to read and write"};
+static const char *const kind_names[] = {
+    [HC_READ] = "to read",
+    [HC_CAREFUL_READ] = "to read, keeping all write rights,",
+    [HC_WRITE] = "to write",
+    [HC_READ_AND_WRITE] = "to read and write",
+};
 
 /* Class 1 is the banks, class 2 the oil companies; folder 0 is sanitised. */
 static const uint16_t classes[FOLDERS] = {0, 1, 1, 2, 1};
@@ -37,16 +42,16 @@ static void file_register(const char *title, const uint16_t *class_list, const u
 
     printf("%s: ", title);
     switch (a.number) {
-    case 0:
+    case HC_ACCEPTED:
         printf("accepted\n");
         break;
-    case 1:
+    case HC_REGISTER_SIZES:
         printf("too few or too many logins or folders\n");
         break;
-    case 2:
+    case HC_REGISTER_LONE_ZERO:
         printf("'%s' has a class without a client, or a client without a class\n", folder_names[a.first]);
         break;
-    case 3:
+    case HC_REGISTER_TWO_CLASSES:
         printf("'%s' has another class than '%s', of the same client\n", folder_names[a.first], folder_names[a.second]);
         break;
     }
@@ -57,26 +62,26 @@ static void file_register(const char *title, const uint16_t *class_list, const u
 static void print_answer(hc_reply r)
 {
     switch (r.number) {
-    case 0:
+    case HC_GRANTED:
         printf("granted");
         if (r.count > 0) {
             printf(", and %u write right%s taken back", r.count, r.count == 1 ? " is" : "s are");
         }
         break;
-    case 20:
+    case HC_RIVAL:
         printf("refused, '%s' of a rival is open to this login", folder_names[r.first]);
         break;
-    case 21:
+    case HC_FOREIGN:
         printf("refused, '%s' of another client is open to this login", folder_names[r.first]);
         break;
-    case 22:
+    case HC_AT_STAKE:
         printf("refused, the write right on '%s' would be lost", folder_names[r.first]);
         break;
-    case 30:
+    case HC_LOG_FULL:
         printf("not decided, the log is full");
         break;
     default:
-        printf("not judged, refusal %u", r.number);
+        printf("not judged, %s", hc_answer_words(r.number));
         break;
     }
     printf("\n");
@@ -117,12 +122,12 @@ static void print_log(const room *here)
     hc_log_item item = hc_log_step(here->log, here->end, 0);
 
     printf("the log, %zu bytes: ", here->end);
-    if (whole.number != 0) {
-        printf("refusal %u at byte %zu\n", whole.number, whole.value);
+    if (whole.number != HC_ACCEPTED) {
+        printf("%s, at byte %zu\n", hc_answer_words(whole.number), whole.value);
         return;
     }
     printf("%zu records\n", whole.value);
-    while (item.number == 0) {
+    while (item.number == HC_STEP_RECORD) {
         printf("%u: login %u, folder %u, kind %u, answer %u", item.serial, item.login, item.folder, item.kind, item.answer);
         print_list(here, item);
         printf("\n");
@@ -138,16 +143,16 @@ int main(void)
     file_register("the first register", slip, clients);
     file_register("the mended register", classes, clients);
 
-    ask(&here, 0, WRITE, 1);
-    ask(&here, 0, WRITE, 3);
-    ask(&here, 0, CAREFUL_READ, 1);
-    ask(&here, 0, READ, 1);
-    ask(&here, 0, READ, 2);
-    ask(&here, 0, READ, 0);
-    ask(&here, 0, READ, 3);
-    ask(&here, 0, WRITE, 4);
-    ask(&here, 1, READ_AND_WRITE, 2);
-    ask(&here, 1, READ, 4);
+    ask(&here, 0, HC_WRITE, 1);
+    ask(&here, 0, HC_WRITE, 3);
+    ask(&here, 0, HC_CAREFUL_READ, 1);
+    ask(&here, 0, HC_READ, 1);
+    ask(&here, 0, HC_READ, 2);
+    ask(&here, 0, HC_READ, 0);
+    ask(&here, 0, HC_READ, 3);
+    ask(&here, 0, HC_WRITE, 4);
+    ask(&here, 1, HC_READ_AND_WRITE, 2);
+    ask(&here, 1, HC_READ, 4);
 
     print_log(&here);
     return 0;

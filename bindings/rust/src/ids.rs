@@ -2,6 +2,7 @@
 
 use std::error::Error;
 use std::fmt;
+use std::str::FromStr;
 
 use crate::{ruled_out, sys};
 
@@ -70,6 +71,18 @@ slices!(ClassNo);
 slices!(ClientNo);
 
 /// The four kinds of request.
+///
+/// A kind is listed ([`ALL`](Kind::ALL)), printed, and parsed from the words that it prints: `read`, `careful read`, `write` and
+/// `read and write`, just so. Numbers are taken by `Kind::try_from`.
+///
+/// ```
+/// use housechervil::{Kind, ParseKindError, UnknownKind};
+///
+/// assert_eq!(Kind::ALL.map(|kind| kind.to_string()), ["read", "careful read", "write", "read and write"]);
+/// assert_eq!("careful read".parse(), Ok(Kind::CarefulRead));
+/// assert_eq!("Read".parse::<Kind>(), Err(ParseKindError("Read".to_string())));
+/// assert_eq!((Kind::try_from(4), Kind::try_from(5)), (Ok(Kind::ReadAndWrite), Err(UnknownKind(5))));
+/// ```
 #[derive(Clone, Copy, Debug, PartialEq, Eq, Hash)]
 pub enum Kind {
     /// 1: read. A grant takes the write rights back that are at stake.
@@ -86,7 +99,7 @@ impl Kind {
     /// All kinds, in the order of their numbers.
     pub const ALL: [Kind; 4] = [Kind::Read, Kind::CarefulRead, Kind::Write, Kind::ReadAndWrite];
 
-    /// Document 01's number, 1 to 4.
+    /// Its number in the rules, 1 to 4.
     pub const fn number(self) -> u16 {
         match self {
             Kind::Read => 1,
@@ -95,18 +108,50 @@ impl Kind {
             Kind::ReadAndWrite => 4,
         }
     }
-}
 
-impl fmt::Display for Kind {
-    fn fmt(&self, f: &mut fmt::Formatter<'_>) -> fmt::Result {
-        f.write_str(match self {
+    /// Its words, which are printed and parsed.
+    const fn words(self) -> &'static str {
+        match self {
             Kind::Read => "read",
             Kind::CarefulRead => "careful read",
             Kind::Write => "write",
             Kind::ReadAndWrite => "read and write",
-        })
+        }
     }
 }
+
+impl fmt::Display for Kind {
+    fn fmt(&self, f: &mut fmt::Formatter<'_>) -> fmt::Result {
+        f.pad(self.words())
+    }
+}
+
+impl FromStr for Kind {
+    type Err = ParseKindError;
+
+    /// The kind of these words, which are those that it prints.
+    fn from_str(words: &str) -> Result<Kind, ParseKindError> {
+        let named = Kind::ALL.into_iter().find(|kind| kind.words() == words);
+        named.ok_or_else(|| ParseKindError(words.to_string()))
+    }
+}
+
+/// Words that name no kind.
+#[derive(Clone, Debug, PartialEq, Eq, Hash)]
+pub struct ParseKindError(pub String);
+
+impl fmt::Display for ParseKindError {
+    fn fmt(&self, f: &mut fmt::Formatter<'_>) -> fmt::Result {
+        let [read, careful_read, write, read_and_write] = Kind::ALL;
+        write!(
+            f,
+            "{:?} is not a kind of request, which are {read}, {careful_read}, {write}, and {read_and_write}",
+            self.0
+        )
+    }
+}
+
+impl Error for ParseKindError {}
 
 /// A number that is no kind.
 #[derive(Clone, Copy, Debug, PartialEq, Eq)]
@@ -145,6 +190,12 @@ impl From<Kind> for KindNo {
     }
 }
 
+impl fmt::Display for KindNo {
+    fn fmt(&self, f: &mut fmt::Formatter<'_>) -> fmt::Result {
+        self.0.fmt(f)
+    }
+}
+
 /// The rights of one login on one folder: a cell of the matrix.
 #[derive(Clone, Copy, Debug, Default, PartialEq, Eq, Hash)]
 pub struct Rights {
@@ -171,7 +222,7 @@ impl Rights {
 
 impl fmt::Display for Rights {
     fn fmt(&self, f: &mut fmt::Formatter<'_>) -> fmt::Result {
-        f.write_str(match (self.read, self.write) {
+        f.pad(match (self.read, self.write) {
             (false, false) => "none",
             (true, false) => "read",
             (false, true) => "write",

@@ -2,12 +2,13 @@
 //! clients who compete with each other.
 //!
 //! The library is the Chinese Wall policy with explicit revocation of write rights. It is written in Rattle, and each of its
-//! functions is proved to answer, and to leave in every buffer lent, exactly what the project's scope document (*document 01*)
-//! says, on every input. This crate adds no rule of its own: it turns the document's numbers into Rust's types and back.
+//! functions is proved to answer, and to leave in every buffer lent, exactly what the rules say, on every input. The rules, with
+//! every answer and its number, stand in the repository's `docs/RULES.md` (tests and decisions call them *document 01*, after the
+//! scope document from which they come). This crate adds no rule of its own: it turns the rules' numbers into Rust's types and back.
 //!
 //! # A worked example
 //!
-//! The house of document 01's table: two logins, five folders, of which folder 0 is sanitised (public) and folders 1 and 2
+//! The house of the rules' own example: two logins, five folders, of which folder 0 is sanitised (public) and folders 1 and 2
 //! belong to two rivals of one class.
 //!
 //! ```
@@ -43,14 +44,16 @@
 //! # Building
 //!
 //! The build script looks for `libhousechervil.a` in `target/staticlib` at the repository's root, where
-//! `rt staticlib housechervil` puts it, or in the directory that the environment variable `HOUSECHERVIL_LIB_DIR` names. The library
-//! is for x86-64. The crate has no dependencies and builds with Rust 1.63 or later.
+//! `rt staticlib housechervil` puts it, or in the directory that the environment variable `HOUSECHERVIL_LIB_DIR` names, by an
+//! absolute path. The library is for x86-64 Linux. The crate has no dependencies and asks for Rust 1.63 or later.
 //!
 //! # What there is
 //!
 //! | Task | Here | C |
 //! |---|---|---|
 //! | a room that keeps its own matrix and log | [`Room`] | |
+//! | a full log taken out of it | [`Room::take_log`] | |
+//! | a room taken apart, and made again of its parts | [`Room::into_parts`], [`Room::resume`] | |
 //! | the register check | [`Register::check`] | `hc_register_check` |
 //! | a request on lent buffers | [`Register::request`] | `hc_request` |
 //! | the log, record by record | [`Records`], [`read_record`] | `hc_log_step` |
@@ -59,7 +62,7 @@
 //! | packed copies of cells | [`pack`], [`pack_into`], [`unpack`], [`unpack_into`] | `hc_pack`, `hc_unpack` |
 //! | serials | [`Serial::next`], [`Serial::compare`] | `hc_serial_next`, `hc_serial_compare` |
 //!
-//! Every answer has a method `number` with document 01's number. An answer that stands for a refusal is an
+//! Every answer has a method `number` with its number in the rules. An answer that stands for a refusal is an
 //! [`Error`](std::error::Error).
 //!
 //! A folder number, a client number, a class number and a login number are four types, so that one given in another's place does
@@ -84,10 +87,10 @@
 //! - **Lifetimes.** The library keeps no pointer after a call: it has no state, allocates nothing, calls nothing back and returns
 //!   numbers only. What this crate keeps, a [`Record`]'s log for example, is a borrow that the compiler watches.
 //! - **No conditions.** No function of the library has a precondition. Logins, folders and kinds out of range, lists of unequal
-//!   length, a matrix of a wrong length, an end past the log, a place past the log: each has its answer in document 01, is proved
+//!   length, a matrix of a wrong length, an end past the log, a place past the log: each has its answer in the rules, is proved
 //!   to be given it, and then no byte has moved. So no check on this side has to hold, and none is relied on.
 //! - **Values.** Lent buffers hold `u8` and `u16`, for which every bit pattern is good. Answers come back as plain numbers; a number
-//!   that document 01 does not know would be a panic, never an enum with a value it does not have. Places and ends that come back
+//!   that the rules do not know would be a panic, never an enum with a value it does not have. Places and ends that come back
 //!   are used only as indices that Rust checks.
 //! - **Layout.** The structs are `repr(C)`, [`ClassNo`] and [`ClientNo`] are `repr(transparent)` around `u16`, and the build stops
 //!   if a struct's size is not that of the C interface on x86-64.
@@ -95,6 +98,11 @@
 //! - **Threads.** All types are plain data and borrows, so `Send` and `Sync` are the compiler's own conclusions.
 //!
 //! What this rests on: that the library linked in is the one that `rt staticlib housechervil` makes.
+//!
+//! # Panics
+//!
+//! With that library nothing here panics, but where a section 'Panics' says so. With another, an answer that the contracts rule
+//! out is a panic.
 
 #![deny(missing_docs)]
 #![deny(unsafe_op_in_unsafe_fn)]
@@ -110,12 +118,14 @@ mod register;
 mod request;
 mod room;
 
-pub use ids::{ClassNo, ClientNo, FolderNo, Kind, KindNo, LoginNo, Rights, Serial, SerialOrder, UnknownKind};
+pub use ids::{
+    ClassNo, ClientNo, FolderNo, Kind, KindNo, LoginNo, ParseKindError, Rights, Serial, SerialOrder, UnknownKind,
+};
 pub use log::{check_log, read_number, read_record, Listed, LogFault, Record, Records, Verdict};
 pub use packing::{pack, pack_into, packed_len, unpack, unpack_into, PackError, UnpackError};
 pub use register::{Register, RegisterError};
 pub use request::{Granted, Refusal, Reply, Request};
-pub use room::Room;
+pub use room::{Parts, ResumeError, Room};
 
 /// The most logins a register may have.
 pub const MAX_LOGINS: usize = 128;

@@ -2,6 +2,7 @@
 
 use std::error::Error;
 use std::fmt;
+use std::hash::{Hash, Hasher};
 use std::iter::FusedIterator;
 
 use crate::{ruled_out, sys, FolderNo, Kind, LoginNo, Serial};
@@ -42,7 +43,7 @@ pub enum LogFault {
 }
 
 impl LogFault {
-    /// Document 01's number, 50 to 55.
+    /// Its number in the rules, 50 to 55.
     pub const fn number(self) -> u16 {
         match self {
             LogFault::PastEnd { .. } => 50,
@@ -111,7 +112,7 @@ pub enum Verdict {
 }
 
 impl Verdict {
-    /// Document 01's number: 0, 20, 21 or 22.
+    /// Its number in the rules: 0, 20, 21 or 22.
     pub const fn number(self) -> u16 {
         match self {
             Verdict::Granted => 0,
@@ -136,7 +137,7 @@ impl Verdict {
 
 impl fmt::Display for Verdict {
     fn fmt(&self, f: &mut fmt::Formatter<'_>) -> fmt::Result {
-        f.write_str(match self {
+        f.pad(match self {
             Verdict::Granted => "granted",
             Verdict::Rival => "refused for a rival",
             Verdict::Foreign => "refused for a foreign folder",
@@ -146,6 +147,18 @@ impl fmt::Display for Verdict {
 }
 
 /// A record of a lent log.
+///
+/// Two records are equal if they say the same: serial, login, folder, kind, verdict and listed folders. Where they stand, and in
+/// which log, does not count. Printed, a record is one line:
+///
+/// ```
+/// use housechervil::Records;
+///
+/// let log = [3, 0, 1, 1, 0, 1, 3, 4, 0, 2, 1, 20, 1, 1];
+/// let lines: Vec<String> = Records::new(&log).map(|record| record.unwrap().to_string()).collect();
+/// assert_eq!(lines[0], "3: login 0, read, folder 1: granted, write rights taken back: 3");
+/// assert_eq!(lines[1], "4: login 0, read, folder 2: refused for a rival: 1");
+/// ```
 #[derive(Clone, Copy)]
 pub struct Record<'a> {
     log: &'a [u8],
@@ -209,6 +222,45 @@ impl<'a> Record<'a> {
     /// The listed folders: after a grant those that lost a write right, rising; after a refusal the one that stands in the way.
     pub fn listed(&self) -> Listed<'a> {
         Listed { log: self.log, place: self.list, left: self.count }
+    }
+}
+
+impl Record<'_> {
+    /// What the record says, but for its list.
+    fn fields(&self) -> (Serial, LoginNo, FolderNo, Kind, Verdict) {
+        (self.serial, self.login, self.folder, self.kind, self.verdict)
+    }
+}
+
+impl PartialEq for Record<'_> {
+    fn eq(&self, other: &Record<'_>) -> bool {
+        self.fields() == other.fields() && self.listed().eq(other.listed())
+    }
+}
+
+impl Eq for Record<'_> {}
+
+impl Hash for Record<'_> {
+    fn hash<H: Hasher>(&self, state: &mut H) {
+        self.fields().hash(state);
+        self.count.hash(state);
+        self.listed().for_each(|folder| folder.hash(state));
+    }
+}
+
+impl fmt::Display for Record<'_> {
+    fn fmt(&self, f: &mut fmt::Formatter<'_>) -> fmt::Result {
+        let Record { serial, login, folder, kind, verdict, .. } = self;
+        write!(f, "{serial}: login {login}, {kind}, folder {folder}: {verdict}")?;
+        if *verdict == Verdict::Granted && self.count > 0 {
+            f.write_str(", write rights taken back")?;
+        }
+        let mut before = ": ";
+        for listed in self.listed() {
+            write!(f, "{before}{listed}")?;
+            before = ", ";
+        }
+        Ok(())
     }
 }
 

@@ -18,7 +18,7 @@ pub enum PackError {
 }
 
 impl PackError {
-    /// Document 01's number, 61 or 60.
+    /// Its number in the rules, 61 or 60.
     pub const fn number(self) -> u16 {
         match self {
             PackError::Lengths => 61,
@@ -48,7 +48,7 @@ pub enum UnpackError {
 }
 
 impl UnpackError {
-    /// Document 01's number, 61 or 62.
+    /// Its number in the rules, 61 or 62.
     pub const fn number(self) -> u16 {
         match self {
             UnpackError::Lengths => 61,

@@ -37,7 +37,7 @@ impl<'a> Register<'a> {
     ///
     /// # Errors
     ///
-    /// The first that fits of document 01's refusals 1 to 3.
+    /// The first that fits of the rules' refusals 1 to 3.
     #[inline]
     pub fn check(&self) -> Result<(), RegisterError> {
         let (classes, clients) = (self.classes, self.clients);
@@ -80,7 +80,7 @@ pub enum RegisterError {
 }
 
 impl RegisterError {
-    /// Document 01's number, 1 to 3.
+    /// Its number in the rules, 1 to 3.
     pub const fn number(self) -> u16 {
         match self {
             RegisterError::Sizes => 1,

@@ -43,7 +43,7 @@ pub struct Granted {
 }
 
 impl Granted {
-    /// Document 01's number of a grant, which is 0.
+    /// The number of a grant in the rules, which is 0.
     pub const fn number(self) -> u16 {
         0
     }
@@ -57,11 +57,20 @@ pub enum Refusal {
     /// 4: the matrix's length is not logins times folders.
     MatrixLength,
     /// 5: no such login.
-    Login,
+    Login {
+        /// The login that asked.
+        asked: LoginNo,
+    },
     /// 6: no such folder.
-    Folder,
+    Folder {
+        /// The folder asked for.
+        asked: FolderNo,
+    },
     /// 7: the kind is not 1 to 4.
-    Kind,
+    Kind {
+        /// The kind asked for.
+        asked: KindNo,
+    },
     /// 8: a cell of the login's row exceeds 3.
     Cell {
         /// The first such folder.
@@ -89,14 +98,14 @@ pub enum Refusal {
 }
 
 impl Refusal {
-    /// Document 01's number.
+    /// Its number in the rules.
     pub const fn number(self) -> u16 {
         match self {
             Refusal::Register(error) => error.number(),
             Refusal::MatrixLength => 4,
-            Refusal::Login => 5,
-            Refusal::Folder => 6,
-            Refusal::Kind => 7,
+            Refusal::Login { .. } => 5,
+            Refusal::Folder { .. } => 6,
+            Refusal::Kind { .. } => 7,
             Refusal::Cell { .. } => 8,
             Refusal::LogEnd => 9,
             Refusal::Rival { .. } => 20,
@@ -106,7 +115,8 @@ impl Refusal {
         }
     }
 
-    /// The folder carried, if one is; the first of the two of refusal 3.
+    /// The folder of the house that is at fault or stands in the way, if the refusal carries one; the first of the two of refusal 3.
+    /// A folder that was asked for and does not exist is none.
     pub const fn folder(self) -> Option<FolderNo> {
         match self {
             Refusal::Register(error) => error.folder(),
@@ -115,9 +125,9 @@ impl Refusal {
             | Refusal::Foreign { folder }
             | Refusal::AtStake { folder } => Some(folder),
             Refusal::MatrixLength
-            | Refusal::Login
-            | Refusal::Folder
-            | Refusal::Kind
+            | Refusal::Login { .. }
+            | Refusal::Folder { .. }
+            | Refusal::Kind { .. }
             | Refusal::LogEnd
             | Refusal::LogFull => None,
         }
@@ -128,15 +138,15 @@ impl Refusal {
         matches!(self, Refusal::Rival { .. } | Refusal::Foreign { .. } | Refusal::AtStake { .. })
     }
 
-    /// The refusal of these numbers.
+    /// The refusal of these numbers, which answer this request.
     #[inline]
-    fn from_numbers(number: u16, first: u16, second: u16) -> Option<Refusal> {
+    fn from_numbers(number: u16, first: u16, second: u16, request: Request) -> Option<Refusal> {
         let folder = FolderNo(first);
         Some(match number {
             4 => Refusal::MatrixLength,
-            5 => Refusal::Login,
-            6 => Refusal::Folder,
-            7 => Refusal::Kind,
+            5 => Refusal::Login { asked: request.login },
+            6 => Refusal::Folder { asked: request.folder },
+            7 => Refusal::Kind { asked: request.kind },
             8 => Refusal::Cell { folder },
             9 => Refusal::LogEnd,
             20 => Refusal::Rival { folder },
@@ -159,9 +169,9 @@ impl fmt::Display for Refusal {
         match self {
             Refusal::Register(error) => error.fmt(f),
             Refusal::MatrixLength => f.write_str("the matrix's length is not logins times folders"),
-            Refusal::Login => f.write_str("there is no such login"),
-            Refusal::Folder => f.write_str("there is no such folder"),
-            Refusal::Kind => f.write_str("there is no such kind of request"),
+            Refusal::Login { asked } => write!(f, "there is no login {asked}"),
+            Refusal::Folder { asked } => write!(f, "there is no folder {asked}"),
+            Refusal::Kind { asked } => write!(f, "there is no kind of request {asked}"),
             Refusal::Cell { folder } => write!(f, "the login's cell of folder {folder} exceeds 3"),
             Refusal::LogEnd => f.write_str("the log's end lies past its buffer"),
             Refusal::Rival { folder } => {
@@ -235,7 +245,7 @@ impl Register<'_> {
         };
         let answer = match reply.number {
             0 => Ok(Granted { taken_back: reply.count }),
-            number => Err(Refusal::from_numbers(number, reply.first, reply.second)
+            number => Err(Refusal::from_numbers(number, reply.first, reply.second, request)
                 .unwrap_or_else(|| ruled_out("a request", number))),
         };
         Reply { answer, end: reply.end, serial: Serial(reply.serial) }

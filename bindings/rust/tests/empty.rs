@@ -52,7 +52,7 @@ fn empty_buffers_of_a_request() {
 
     // An empty log hides the decision, but not what comes before the wall.
     let strange = Request { login: LoginNo(0), folder: FolderNo(0), kind: KindNo(0) };
-    unmoved(one.request(&mut matrix, strange, &mut [], 0, Serial(9)), 0, Refusal::Kind);
+    unmoved(one.request(&mut matrix, strange, &mut [], 0, Serial(9)), 0, Refusal::Kind { asked: KindNo(0) });
 }
 
 #[test]

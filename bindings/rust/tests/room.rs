@@ -3,8 +3,8 @@
 use std::error::Error;
 
 use housechervil::{
-    ClassNo, ClientNo, FolderNo, Granted, Kind, LogFault, LoginNo, PackError, Refusal, RegisterError, Rights, Room,
-    Serial, UnknownKind, UnpackError, Verdict,
+    ClassNo, ClientNo, FolderNo, Granted, Kind, KindNo, LogFault, LoginNo, PackError, ParseKindError, Refusal,
+    RegisterError, Rights, Room, Serial, UnknownKind, UnpackError, Verdict,
 };
 
 const FOLDER: FolderNo = FolderNo(7);
@@ -22,9 +22,9 @@ fn numbers_and_words() {
 
     let refusals = [
         Refusal::MatrixLength,
-        Refusal::Login,
-        Refusal::Folder,
-        Refusal::Kind,
+        Refusal::Login { asked: LoginNo(7) },
+        Refusal::Folder { asked: FOLDER },
+        Refusal::Kind { asked: KindNo(7) },
         Refusal::Cell { folder: FOLDER },
         Refusal::LogEnd,
         Refusal::Rival { folder: FOLDER },
@@ -94,6 +94,42 @@ fn kinds_and_rights() {
     assert_eq!(Rights { read: false, write: true }.cell(), 2);
 }
 
+/// A refusal of what does not exist names the number that was asked for, and no folder of the house.
+#[test]
+fn unknown_numbers_are_named() {
+    let unknown = [
+        (Refusal::Login { asked: LoginNo(128) }, "there is no login 128"),
+        (Refusal::Folder { asked: FolderNo(512) }, "there is no folder 512"),
+        (Refusal::Kind { asked: KindNo(65_535) }, "there is no kind of request 65535"),
+    ];
+    for (refusal, words) in unknown {
+        assert_eq!(refusal.to_string(), words);
+        assert_eq!(refusal.folder(), None);
+    }
+}
+
+#[test]
+fn kinds_parsed_and_printed() {
+    for kind in Kind::ALL {
+        assert_eq!(kind.to_string().parse(), Ok(kind));
+        assert_eq!(KindNo::from(kind).to_string(), kind.number().to_string());
+    }
+    for words in ["", "Read", "read ", " read", "careful  read", "careful", "read and writ", "1", "R", "rea\0d"] {
+        let error = words.parse::<Kind>().unwrap_err();
+        assert_eq!(error, ParseKindError(words.to_string()));
+    }
+    assert_eq!(
+        "raed".parse::<Kind>().unwrap_err().to_string(),
+        "\"raed\" is not a kind of request, which are read, careful read, write, and read and write"
+    );
+    assert_eq!(UnknownKind(9).to_string(), "9 is not a kind of request, which are 1 to 4");
+    // Words take the width they are given.
+    assert_eq!(
+        format!("{:<13}|{:>6}|{:^9}|", Kind::CarefulRead, Rights::default(), Verdict::Granted),
+        "careful read |  none| granted |"
+    );
+}
+
 /// A room keeps matrix, log and serial from one request to the next, and a refusal that is not logged leaves them.
 #[test]
 fn a_room() {
@@ -112,8 +148,11 @@ fn a_room() {
     assert_eq!(room.rights(LoginNo(2), FolderNo(0)), None);
 
     let before = room.clone();
-    for (login, folder, refusal) in [(2, 0, Refusal::Login), (0, 3, Refusal::Folder), (65_535, 65_535, Refusal::Login)]
-    {
+    for (login, folder, refusal) in [
+        (2, 0, Refusal::Login { asked: LoginNo(2) }),
+        (0, 3, Refusal::Folder { asked: FolderNo(3) }),
+        (65_535, 65_535, Refusal::Login { asked: LoginNo(65_535) }),
+    ] {
         assert_eq!(room.ask(LoginNo(login), FolderNo(folder), Kind::Write), Err(refusal));
     }
     assert_eq!(room.matrix(), before.matrix());

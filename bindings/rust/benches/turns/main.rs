@@ -5,11 +5,10 @@
 
 #![allow(clippy::incompatible_msrv)]
 
-// Not all of the reference implementation, nor of the inputs, is used here.
-#[allow(dead_code)]
 #[path = "../../tests/reference/mod.rs"]
 mod reference;
 
+// Not all of the inputs are used here.
 #[allow(dead_code)]
 #[path = "../speed/inputs.rs"]
 mod inputs;

@@ -184,6 +184,17 @@ fn crate_numbers(refusal: housechervil::Refusal) -> [u16; 3] {
     [refusal.number(), refusal.folder().map_or(0, |folder| folder.0), second]
 }
 
+/// A refusal of what does not exist names what was asked for.
+#[track_caller]
+fn same_unknown(refusal: housechervil::Refusal, request: Request) {
+    match refusal {
+        housechervil::Refusal::Login { asked } => assert_eq!(asked, request.login),
+        housechervil::Refusal::Folder { asked } => assert_eq!(asked, request.folder),
+        housechervil::Refusal::Kind { asked } => assert_eq!(asked, request.kind),
+        _ => (),
+    }
+}
+
 /// The register check: both ways into the library against the reference.
 #[track_caller]
 pub fn same_check(house: &House) -> Result<(), Refusal> {
@@ -262,6 +273,9 @@ pub fn same_request(
         .answer
         .map_or_else(|refusal| (crate_numbers(refusal), 0), |granted| ([granted.number(), 0, 0], granted.taken_back));
     assert_eq!(answer, ([number, first, second], count), "safe crate on {}", context());
+    if let Err(refusal) = safe.answer {
+        same_unknown(refusal, request);
+    }
     assert_eq!((safe.end, safe.serial.0), (expected.end, expected.serial), "safe crate on {}", context());
     assert!(safe_matrix == next_matrix, "matrix or its guards, safe crate on {}", context());
     assert!(safe_log == next_log, "log or its guards, safe crate on {}", context());
