@@ -2,6 +2,7 @@
 // a type of its own, so that one given in another's place does not build.
 ghost use mathlib.Core.Path.{_≡_};
 ghost use lib.Dec.{eqb};
+ghost use Rattle.ids.specs.Label.{labelOf};
 
 // A login, numbered from 0.
 pub struct LoginNo(pub u16);
@@ -14,6 +15,12 @@ pub struct ClientNo(pub u16);
 
 // A class of clients in competition; 0 is the class of a sanitised folder.
 pub struct ClassNo(pub u16);
+
+// A folder's label.
+pub struct Label {
+    pub class: ClassNo,
+    pub client: ClientNo,
+}
 
 // What a login asks for: a folder, and by its kind which rights on it. A kind may be any number; only 1 to 4 are served.
 pub struct Request {
@@ -34,4 +41,14 @@ pub fn same_class(c: ClassNo, d: ClassNo) -> bool
     ensures { λ r. ⌜ r ≡ eqb (c .0) (d .0) ⌝ }
 {
     c.0 == d.0
+}
+
+// The label of a folder of this class and client.
+pub fn labelled(class: ClassNo, client: ClientNo) -> Label
+    ensures { λ r. ⌜ r ≡ labelOf (class .0) (client .0) ⌝ }
+{
+    Label {
+        class: class,
+        client: client,
+    }
 }

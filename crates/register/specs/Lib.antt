@@ -1,6 +1,5 @@
 -- The rules:
 pub mod Register
-pub mod Label
 pub mod Verdict
 -- The register as it is lent:
 pub mod Lent

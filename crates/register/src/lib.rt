@@ -8,13 +8,10 @@ use crate::scan::any_lone_zero;
 use crate::scan::first_earlier;
 use crate::scan::first_lone_zero;
 use crate::table::walk_later;
-use ids::ClassNo;
-use ids::ClientNo;
 use ids::FolderNo;
 ghost use Prim.Native.Nat.{_≤_};
 ghost use mathlib.Core.Path.{_≡_};
 ghost use lib.ListN.{length, getD};
-ghost use Rattle.register.specs.Label.{labelOf};
 ghost use Rattle.register.specs.Lent.{lent};
 ghost use Rattle.register.specs.Register.{registerOf, inRange, later, registerAnswer};
 ghost use Rattle.register.specs.Verdict.{verdictAnswer};
@@ -29,22 +26,6 @@ pub enum Verdict {
     LoneZero(FolderNo),
     // 3: the first folder that differs from an earlier one of its client, and the first such earlier one
     TwoClasses(FolderNo, FolderNo),
-}
-
-// A folder's label.
-pub struct Label {
-    pub class: ClassNo,
-    pub client: ClientNo,
-}
-
-// The label of a folder of this class and client.
-pub fn labelled(class: ClassNo, client: ClientNo) -> Label
-    ensures { λ r. ⌜ r ≡ labelOf (class .0) (client .0) ⌝ }
-{
-    Label {
-        class: class,
-        client: client,
-    }
 }
 
 // A folder's number, from its place.

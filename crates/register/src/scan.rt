@@ -1,8 +1,8 @@
 // Searches through the folders' labels.
-use crate::Label;
-use crate::labelled;
 use ids::ClassNo;
 use ids::ClientNo;
+use ids::Label;
+use ids::labelled;
 use ids::same_class;
 use ids::same_client;
 ghost use Prim.Native.Nat.{_<_, _≤_};
@@ -11,7 +11,7 @@ ghost use mathlib.Core.Bool.{not, _&&_};
 ghost use lib.Dec.{eqb};
 ghost use lib.ListN.{length, getD};
 ghost use Rattle.vocabulary.specs.Those.{those, some};
-ghost use Rattle.register.specs.Label.{labelOf};
+ghost use Rattle.ids.specs.Label.{labelOf};
 ghost use Rattle.register.specs.Register.{registerOf, exactlyOne, loneZero, differs, earlier, later};
 ghost use Rattle.register.specs.Marks.{Clean, clash};
 

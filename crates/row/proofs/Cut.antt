@@ -14,7 +14,7 @@ use Rattle.vocabulary.specs.Each.{each}
 use Rattle.vocabulary.proofs.Those.{first-some, first-none, those-agree, those-never}
 use Rattle.vocabulary.proofs.Each.{each-agree}
 use Rattle.vocabulary.proofs.Bools.{either, both, true-or-false}
-use Rattle.register.specs.declared.Label.{Label}
+use Rattle.ids.specs.declared.Label.{Label}
 use Rattle.register.specs.Register.{Register, folders}
 use Rattle.policy.specs.Rules.{writes, revokes, rivals, foreigners, stakes, lost, cellAfter, rowAfter}
 use Rattle.policy.specs.Outcome.{wallChecks, wallAnswer}

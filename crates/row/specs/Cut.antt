@@ -7,8 +7,8 @@ use lib.ListN.{length, getD, set}
 use lib.Seq.{sets}
 use lib.Dec.{eqb}
 use Rattle.vocabulary.specs.Those.{those}
-use Rattle.register.specs.declared.Label.{Label}
-use Rattle.register.specs.Label.{labelOf}
+use Rattle.ids.specs.declared.Label.{Label}
+use Rattle.ids.specs.Label.{labelOf}
 use Rattle.policy.specs.Rules.{canRead, canWrite, cell, cellFor, reads, writes, revokes}
 use Rattle.row.specs.Row.{listedAtStart}
 use Rattle.row.specs.declared.rules.Sort.{Sort}

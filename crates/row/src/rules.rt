@@ -1,5 +1,5 @@
 // The rules on one cell of a row and two labels: the folder's and that of the folder asked for.
-use register::Label;
+use ids::Label;
 ghost use Prim.Native.Nat.{_≤_};
 ghost use mathlib.Core.Path.{_≡_};
 ghost use mathlib.Core.Bool.{not, _&&_, _||_};

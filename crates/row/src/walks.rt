@@ -4,7 +4,7 @@ use crate::rules::Sort;
 use ids::ClassNo;
 use ids::ClientNo;
 use ids::FolderNo;
-use register::Label;
+use ids::Label;
 ghost use Prim.Native.Nat.{_≤_, _<_};
 ghost use mathlib.Core.Path.{_≡_};
 ghost use mathlib.Core.Bool.{cond};
@@ -26,7 +26,7 @@ fn label_at(classes: &[u16], clients: &[u16], f: usize) -> Label
     requires { ⌜ (f < length (now classes)) × (f < length (now clients)) ⌝ }
     ensures { λ r. ⌜ r ≡ labelAt (now (classes .entry)) (now (clients .entry)) f ⌝ }
 {
-    register::labelled(ClassNo(classes[f]), ClientNo(clients[f]))
+    ids::labelled(ClassNo(classes[f]), ClientNo(clients[f]))
 }
 
 // The label of a folder.

@@ -1,6 +1,6 @@
 -- A folder's label: its class and its client (document 01, 'The register').
 use Prim.Native.Nat.{ℕ}
-use Rattle.register.specs.declared.Label.{Label}
+use Rattle.ids.specs.declared.Label.{Label}
 
 abbrev pub labelOf : ℕ → ℕ → Label
 labelOf class client =
