@@ -26,7 +26,7 @@ use Rattle.audit_log.specs.WellFormed.{WellFormed}
 use Rattle.policy.specs.Rules.{rowOf, cell, writes, revokes, rival, foreign, atStake, rivals, foreigners, stakes, lost}
 use Rattle.policy.specs.Outcome.{Request, Log, requestChecks, wallChecks, wallAnswer, decision, outcome, logged, isLogged, recordOf}
 use Rattle.log_exact.specs.Exact.{LoggedRequest, recorded, CanBeMade}
-use Rattle.audit_log.proofs.Fields.{Answers, answer-cases}
+use Rattle.log_fields.proofs.Accepted.{Answers, answer-cases}
 use Rattle.log_exact.proofs.Rising.{rising-without, those-rising}
 
 -- ---- the answers that the wall gives where it finds the listed folders or none

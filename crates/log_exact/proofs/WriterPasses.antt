@@ -17,7 +17,7 @@ use Rattle.audit_log.specs.WellFormed.{WellFormed, Standing}
 use Rattle.policy.specs.Outcome.{Request, Log, Outcome, decision, isLogged, recordOf, logged, outcome}
 use Rattle.policy.specs.Session.{Session, session}
 use Rattle.log_exact.specs.WriterPasses.{records, emptyLog, WriterPasses}
-use Rattle.audit_log.proofs.Fields.{drop-on}
+use Rattle.log_fields.proofs.Accepted.{drop-on}
 use Rattle.audit_log.proofs.Reader.{step-onward}
 use Rattle.audit_log.proofs.WholeLog.{step-end, checked-end, checked-record}
 use Rattle.policy.proofs.Outcome.{tooLong, outcome-unlogged, outcome-long}
