@@ -10,7 +10,7 @@ use borrow.Author.Tests.{leb-true}
 use Rattle.vocabulary.specs.Answer.{Answer, Check, judge}
 use Rattle.vocabulary.proofs.Bools.{both, true-or-false}
 use Rattle.register.specs.Register.{Register, registerChecks}
-use Rattle.audit_log.specs.WellFormed.{Rising}
+use Rattle.log_lists.specs.Rising.{Rising}
 use Rattle.policy.specs.Rules.{rowOf}
 use Rattle.policy.specs.Outcome.{Request, Log, isLogged, requestChecks, wallChecks, wallAnswer, decision, logged, outcome}
 use Rattle.policy.proofs.Outcome.{tooLong, outcome-unlogged, outcome-long}

@@ -7,8 +7,8 @@ use lib.ListN.{getD}
 use Rattle.vocabulary.specs.Answer.{Answer}
 use Rattle.response.specs.Response.{numbersOf}
 use Rattle.response.specs.declared.Numbers.{Numbers}
-use Rattle.audit_log.specs.Reader.{Entry, Item}
-use Rattle.audit_log.specs.Reader as reader
+use Rattle.log_records.specs.RecordAt.{Entry, Item}
+use Rattle.log_records.specs.RecordAt as item
 use Rattle.policy.specs.Outcome.{Log, Outcome, toldAnswer}
 use Rattle.packing.specs.CopyOutcome.{CopyOutcome}
 use Rattle.housechervil.specs.declared.HcRegisterAnswer.{HcRegisterAnswer}
@@ -128,9 +128,9 @@ entryItem e =
 
 -- What a step yields. Document 01 gives a record and the end no numbers; they are 0 and 1.
 abbrev pub logItem : Item → HcLogItem
-logItem (reader.entry e) = entryItem e
-logItem (reader.end place) = placedItem 1 place
-logItem (reader.refusal a) = placedItem (a .number) (carriedAt 0 a)
+logItem (item.entry e) = entryItem e
+logItem (item.end place) = placedItem 1 place
+logItem (item.refusal a) = placedItem (a .number) (carriedAt 0 a)
 
 -- A number read and the place after it, or the place of a number that is refused.
 abbrev pub numberOf : Answer → HcNumber

@@ -4,9 +4,10 @@ use mathlib.Core.Path.{_≡_, sym, ap, _∙_}
 use mathlib.Core.List.{List, _++_}
 use lib.ListN.{length, drop}
 use lib.Seq.{slice}
-use Rattle.audit_log.specs.Record.{recordBytes}
-use Rattle.audit_log.specs.Reader.{entry, entryAt, stepAt, placeAfter}
-use Rattle.audit_log.specs.WellFormed.{WellFormed, Standing}
+use Rattle.log_records.specs.Record.{recordBytes}
+use Rattle.log_records.specs.RecordAt.{entry, entryAt}
+use Rattle.log_records.specs.WellFormed.{WellFormed, Standing}
+use Rattle.audit_log.specs.Reader.{stepAt, placeAfter}
 use Rattle.policy.specs.Outcome.{Log, appended}
 use Rattle.log_exact.specs.Exact.{LoggedRequest, left, written, recorded, CanBeMade, walked, Yields, LogExact}
 use Rattle.audit_log.proofs.Reader.{list-written, step-writes, step-written, step-yields}

@@ -20,13 +20,13 @@ use Rattle.vocabulary.proofs.Judge.{Passed, judge-append, judge-passed}
 use Rattle.vocabulary.proofs.Order.{lt-or-le}
 use Rattle.vocabulary.proofs.Bools.{neither, eqb-self, true-or-false, cond-same}
 use Rattle.register.specs.Register.{Register, folders, classOf, clientOf, exactlyOne, loneZero, differs, earlier, later, registerChecks, registerAnswer, Accepted}
-use Rattle.audit_log.specs.Record.{Record, recordBytes}
 use Rattle.log_fields.specs.Rule.{canAnswer, badCount}
-use Rattle.audit_log.specs.WellFormed.{WellFormed}
+use Rattle.log_records.specs.Record.{Record, recordBytes}
+use Rattle.log_records.specs.WellFormed.{WellFormed}
 use Rattle.policy.specs.Rules.{rowOf, cell, writes, revokes, rival, foreign, atStake, rivals, foreigners, stakes, lost}
 use Rattle.policy.specs.Outcome.{Request, Log, requestChecks, wallChecks, wallAnswer, decision, outcome, logged, isLogged, recordOf}
 use Rattle.log_exact.specs.Exact.{LoggedRequest, recorded, CanBeMade}
-use Rattle.audit_log.proofs.Fields.{Answers, answer-cases}
+use Rattle.log_fields.proofs.Accepted.{Answers, answer-cases}
 use Rattle.log_exact.proofs.Rising.{rising-without, those-rising}
 
 -- ---- the answers that the wall gives where it finds the listed folders or none

@@ -11,13 +11,13 @@ use Rattle.vocabulary.specs.Answer.{answer}
 use Rattle.vocabulary.proofs.Bools.{true-or-false, eqb-self}
 use Rattle.serial.specs.Serial.{following}
 use Rattle.register.specs.Register.{Register}
-use Rattle.audit_log.specs.Record.{Record, recordBytes}
+use Rattle.log_records.specs.Record.{Record, recordBytes}
+use Rattle.log_records.specs.WellFormed.{WellFormed, Standing}
 use Rattle.audit_log.specs.Reader.{inTurn, checkedFrom, checked}
-use Rattle.audit_log.specs.WellFormed.{WellFormed, Standing}
 use Rattle.policy.specs.Outcome.{Request, Log, Outcome, decision, isLogged, recordOf, logged, outcome}
 use Rattle.policy.specs.Session.{Session, session}
 use Rattle.log_exact.specs.WriterPasses.{records, emptyLog, WriterPasses}
-use Rattle.audit_log.proofs.Fields.{drop-on}
+use Rattle.log_fields.proofs.Accepted.{drop-on}
 use Rattle.audit_log.proofs.Reader.{step-onward}
 use Rattle.audit_log.proofs.WholeLog.{step-end, checked-end, checked-record}
 use Rattle.policy.proofs.Outcome.{tooLong, outcome-unlogged, outcome-long}

@@ -8,8 +8,9 @@ use lib.ListN.{length, drop}
 use lib.Seq.{slice}
 use Rattle.varint.specs.Bytes.{Bytes}
 use Rattle.register.specs.Register.{Register, Accepted, classOf, clientOf}
-use Rattle.audit_log.specs.Record.{Record}
-use Rattle.audit_log.specs.Reader.{Entry, entry, entryAt, listFrom, stepAt, placeAfter}
+use Rattle.log_records.specs.Record.{Record}
+use Rattle.log_records.specs.RecordAt.{Entry, entry, entryAt}
+use Rattle.audit_log.specs.Reader.{listFrom, stepAt, placeAfter}
 use Rattle.policy.specs.Outcome.{Request, Log, Outcome, isLogged, recordOf, outcome}
 
 -- A request that the writer has logged: to an accepted register, on any matrix and log, with a serial of 16 bits.
