@@ -27,10 +27,11 @@ pub(crate) fn any(sort: Sort, row: &[u8], classes: &[u16], clients: &[u16], o: L
     let mut seen = false;
     let mut f = 0;
     while f < row.len() {
+        let cell = row[f];
         let class = classes[f];
         let client = clients[f];
         let label = ids::labelled(ClassNo(class), ClientNo(client));
-        seen = seen | cell_rules::of_sort(sort, row[f], label, o);
+        seen = seen | cell_rules::of_sort(sort, cell, label, o);
         f += 1;
     }
     seen
@@ -43,10 +44,11 @@ fn first(sort: Sort, row: &[u8], classes: &[u16], clients: &[u16], o: Label) -> 
 {
     let mut f = 0;
     while f < row.len() {
+        let cell = row[f];
         let class = classes[f];
         let client = clients[f];
         let label = ids::labelled(ClassNo(class), ClientNo(client));
-        if cell_rules::of_sort(sort, row[f], label, o) {
+        if cell_rules::of_sort(sort, cell, label, o) {
             return f;
         }
         f += 1;

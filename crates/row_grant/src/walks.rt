@@ -35,10 +35,11 @@ pub(crate) fn list_stakes(
     let mut n: usize = 0;
     let mut f = 0;
     while f < row.len() {
+        let cell = row[f];
         let class = classes[f];
         let client = clients[f];
         let label = ids::labelled(ClassNo(class), ClientNo(client));
-        let stake = cell_rules::of_sort(Sort::AtStake, row[f], label, o);
+        let stake = cell_rules::of_sort(Sort::AtStake, cell, label, o);
         list[n] = f as u16;
         n += one_if(stake);
         f += 1;
@@ -70,10 +71,11 @@ pub(crate) fn enter(
 {
     let mut f = 0;
     while f < row.len() {
+        let cell = row[f];
         let class = classes[f];
         let client = clients[f];
         let label = ids::labelled(ClassNo(class), ClientNo(client));
-        row[f] = cell_rules::cell_left(row[f], label, o, f == folder.0 as usize, kind);
+        row[f] = cell_rules::cell_left(cell, label, o, f == folder.0 as usize, kind);
         f += 1;
     }
 }

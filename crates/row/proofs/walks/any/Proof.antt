@@ -23,6 +23,9 @@ unfolding those
 loop-holds c =
     (omega arith, refl)
 
+shared-slice-read-cell : tie.Need-shared-slice-read-cell Inv-loop μ-loop
+shared-slice-read-cell c = search needs
+
 mul-class : tie.Need-mul-class Inv-loop μ-loop
 mul-class c = search needs
 
@@ -38,9 +41,6 @@ shared-slice-read-client c = search needs
 labelled-requires : tie.Need-labelled-requires Inv-loop μ-loop
 labelled-requires c κs = search needs
 
-shared-slice-read-of-sort : tie.Need-shared-slice-read-of-sort Inv-loop μ-loop
-shared-slice-read-of-sort c = search needs
-
 of-sort-requires : tie.Need-of-sort-requires Inv-loop μ-loop
 of-sort-requires c κs = search needs
 
@@ -52,7 +52,7 @@ loop-less c = search needs
 
 loop-again : tie.Need-loop-again Inv-loop μ-loop
 loop-again c =
-    (omega arith, rw (some-those-suc, c .of-sort .ensures, c .before .before .labelled .ensures, c .before .before .before .before .before .before .loop .inv .1))
+    (omega arith, rw (some-those-suc, c .of-sort .ensures, c .before .labelled .ensures, c .before .before .before .before .before .before .loop .inv .1))
 
 returns : tie.Need-returns Inv-loop μ-loop
 returns c =
@@ -65,12 +65,12 @@ any-spec =
     Inv-loop
     μ-loop
     loop-holds
+    shared-slice-read-cell
     mul-class
     shared-slice-read-class
     mul-client
     shared-slice-read-client
     labelled-requires
-    shared-slice-read-of-sort
     of-sort-requires
     add-f
     loop-less

@@ -24,6 +24,9 @@ unfolding those
 loop-holds c =
     (omega arith, refl)
 
+shared-slice-read-cell : tie.Need-shared-slice-read-cell Inv-loop μ-loop
+shared-slice-read-cell c = search needs
+
 mul-class : tie.Need-mul-class Inv-loop μ-loop
 mul-class c = search needs
 
@@ -39,15 +42,12 @@ shared-slice-read-client c = search needs
 labelled-requires : tie.Need-labelled-requires Inv-loop μ-loop
 labelled-requires c κs = search needs
 
-shared-slice-read-of-sort : tie.Need-shared-slice-read-of-sort Inv-loop μ-loop
-shared-slice-read-of-sort c = search needs
-
 of-sort-requires : tie.Need-of-sort-requires Inv-loop μ-loop
 of-sort-requires c κs = search needs
 
 returns : tie.Need-returns Inv-loop μ-loop
 returns c =
-    sym (first-found _ _ _ _ (c .before .before .before .before .before .before .before .loop .inv .1) (rw (c .before .before .before .labelled .ensures) at (sym (c .before .of-sort .ensures) ∙ c .if1 .taken)) (c .before .before .before .before .before .before .loop-test .taken))
+    sym (first-found _ _ _ _ (c .before .before .before .before .before .before .before .loop .inv .1) (rw (c .before .before .labelled .ensures) at (sym (c .before .of-sort .ensures) ∙ c .if1 .taken)) (c .before .before .before .before .before .before .loop-test .taken))
 
 add-f : tie.Need-add-f Inv-loop μ-loop
 add-f c = search needs
@@ -57,7 +57,7 @@ loop-less c = search needs
 
 loop-again : tie.Need-loop-again Inv-loop μ-loop
 loop-again c =
-    (omega arith, those-none _ _ (c .before .before .before .before .before .before .before .loop .inv .1) (rw (c .before .before .before .labelled .ensures) at (sym (c .before .of-sort .ensures) ∙ c .if1 .left)))
+    (omega arith, those-none _ _ (c .before .before .before .before .before .before .before .loop .inv .1) (rw (c .before .before .labelled .ensures) at (sym (c .before .of-sort .ensures) ∙ c .if1 .left)))
 
 returns-2 : tie.Need-returns-2 Inv-loop μ-loop
 returns-2 c =
@@ -70,12 +70,12 @@ first-spec =
     Inv-loop
     μ-loop
     loop-holds
+    shared-slice-read-cell
     mul-class
     shared-slice-read-class
     mul-client
     shared-slice-read-client
     labelled-requires
-    shared-slice-read-of-sort
     of-sort-requires
     returns
     add-f

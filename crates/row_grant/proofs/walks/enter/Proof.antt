@@ -22,6 +22,9 @@ unfolding upTo
 loop-holds c =
     (omega arith, (refl, refl))
 
+slice-read-cell : tie.Need-slice-read-cell Inv-loop μ-loop
+slice-read-cell c = search needs
+
 mul-class : tie.Need-mul-class Inv-loop μ-loop
 mul-class c = search needs
 
@@ -36,9 +39,6 @@ shared-slice-read-client c = search needs
 
 labelled-requires : tie.Need-labelled-requires Inv-loop μ-loop
 labelled-requires c κs = search needs
-
-slice-read-cell-left : tie.Need-slice-read-cell-left Inv-loop μ-loop
-slice-read-cell-left c = search needs
 
 cast-cell-left : tie.Need-cast-cell-left Inv-loop μ-loop
 cast-cell-left c = search needs
@@ -59,7 +59,7 @@ loop-again : tie.Need-loop-again Inv-loop μ-loop
 loop-again c =
     let a = c .before .before .before .before .before .before .before .before .before .before .before .args in
     let l = c .before .before .before .before .before .before .before .loop in
-    (omega arith, (simp length-set (l .inv .1 .0), rw (c .cell-left .ensures, c .before .before .before .labelled .ensures, l .inv .1 .1) (upTo-next (leftAt (a .classes .now) (a .clients .now) (a .o) (a .folder .0) (a .kind)) (l .f) (a .row .now) (omega arith))))
+    (omega arith, (simp length-set (l .inv .1 .0), rw (c .cell-left .ensures, c .before .before .labelled .ensures, l .inv .1 .1) (upTo-next (leftAt (a .classes .now) (a .clients .now) (a .o) (a .folder .0) (a .kind)) (l .f) (a .row .now) (omega arith))))
 
 same-length : tie.Need-same-length Inv-loop μ-loop
 same-length c =
@@ -77,12 +77,12 @@ enter-spec =
     Inv-loop
     μ-loop
     loop-holds
+    slice-read-cell
     mul-class
     shared-slice-read-class
     mul-client
     shared-slice-read-client
     labelled-requires
-    slice-read-cell-left
     cast-cell-left
     cell-left-requires
     slice-write-row

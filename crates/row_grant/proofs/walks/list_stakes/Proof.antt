@@ -25,6 +25,9 @@ unfolding those
 loop-holds c =
     (omega arith, refl, (omega arith, stored-none _))
 
+shared-slice-read-cell : tie.Need-shared-slice-read-cell Inv-loop μ-loop
+shared-slice-read-cell c = search needs
+
 mul-class : tie.Need-mul-class Inv-loop μ-loop
 mul-class c = search needs
 
@@ -39,9 +42,6 @@ shared-slice-read-client c = search needs
 
 labelled-requires : tie.Need-labelled-requires Inv-loop μ-loop
 labelled-requires c κs = search needs
-
-shared-slice-read-of-sort : tie.Need-shared-slice-read-of-sort Inv-loop μ-loop
-shared-slice-read-of-sort c = search needs
 
 of-sort-requires : tie.Need-of-sort-requires Inv-loop μ-loop
 of-sort-requires c κs = search needs
@@ -69,7 +69,7 @@ loop-less c = search needs
 
 loop-again : tie.Need-loop-again Inv-loop μ-loop
 loop-again c =
-    let b = rw (c .before .before .before .labelled .ensures) at (c .before .of-sort .ensures) in
+    let b = rw (c .before .before .labelled .ensures) at (c .before .of-sort .ensures) in
     let a = c .before .before .before .before .before .before .before .before .before .before .before .before .args in
     let l = c .before .before .before .before .before .before .before .loop in
     (omega arith, rw length-set (l .inv .1), (omega (arith, c .one-if .ensures .1), rw (c .one-if .ensures .0, b) (stored-next _ (ofSortAt Sort.AtStake (a .row .now) (a .classes .now) (a .clients .now) (a .o)) (l .f) (l .inv .2 .1))))
@@ -89,12 +89,12 @@ list-stakes-spec =
     Inv-loop
     μ-loop
     loop-holds
+    shared-slice-read-cell
     mul-class
     shared-slice-read-class
     mul-client
     shared-slice-read-client
     labelled-requires
-    shared-slice-read-of-sort
     of-sort-requires
     cast-list
     mul-list
