@@ -21,8 +21,12 @@ use Rattle.policy.specs.Outcome.{Request, Log, Outcome, requestChecks, wallChec
 use Rattle.policy.proofs.Outcome.{logged-silent, outcome-unlogged}
 use Rattle.policy.proofs.Rows.{row-fits, length-rowOf, withRow-rowOf}
 use Rattle.cells.specs.Above.{aboves}
-use Rattle.row.specs.Row.{listsFit, fitting, rowAnswer, rowGranted}
-use Rattle.row.proofs.Fitting.{fits-row, rowAnswer-fits, rowGranted-fits}
+use Rattle.row_labels.specs.Fitting.{listsFit, fitting}
+use Rattle.row_labels.proofs.Fitting.{fits-row}
+use Rattle.row.specs.Row.{rowAnswer}
+use Rattle.row.proofs.Fitting.{rowAnswer-fits}
+use Rattle.row_grant.specs.Granted.{rowGranted}
+use Rattle.row_grant.proofs.Granted.{rowGranted-fits}
 use Rattle.monitor.specs.Stages.{passed, frontChecks, fourToSeven, oneToSeven, rowChecks, servedAnswer, servedOutcome}
 
 pub product-fits : {p f : ℕ} → p ≤ 128 → f ≤ 512 → p * f ≤ 65536

@@ -16,7 +16,9 @@ use Rattle.policy.specs.Rules.{lost}
 use Rattle.policy.specs.Outcome.{Request, Log, wallChecks, wallAnswer, byWall, isLogged, unchanged, told}
 use Rattle.cells.specs.Above.{aboves, firstAbove}
 use Rattle.cells.proofs.Above.{above-found, above-none}
-use Rattle.row.specs.Row.{listsFit, fitting, rowAnswer, lostOn, rowGranted}
+use Rattle.row_labels.specs.Fitting.{listsFit, fitting}
+use Rattle.row.specs.Row.{rowAnswer, lostOn}
+use Rattle.row_grant.specs.Granted.{rowGranted}
 use Rattle.monitor.specs.Stages.{uncounted, rowChecks, servedAnswer, loggedOutcome, grantedOutcome, servedOutcome}
 
 -- ---- rows 8 and 9

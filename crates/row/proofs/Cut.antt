@@ -1,7 +1,7 @@
 -- The rules by the cut of the code: the wall's answer, case by case, by the first find of each search (the row's length stands for 'none');
--- the write rights lost and the row left, by the walks.
+-- the write rights lost, by the folders at stake.
 use Prim.Native.Nat.{ℕ, _≤_, _<_}
-use mathlib.Core.Path.{_≡_, refl, sym}
+use mathlib.Core.Path.{_≡_}
 use mathlib.Core.Logic.{_⊎_, inl, inr, ⊎-elim}
 use mathlib.Core.Bool.{Bool, true, false, _&&_}
 use mathlib.Core.List.{List, [], _∷_}
@@ -10,19 +10,20 @@ use lib.Dec.{eqb}
 use borrow.Author.Tests.{eqb-true, eq-eqb, ne-eqb, le-leb, lt-leb}
 use Rattle.vocabulary.specs.Answer.{Answer, answer, judge}
 use Rattle.vocabulary.specs.Those.{some, smallest}
-use Rattle.vocabulary.specs.Each.{each}
 use Rattle.vocabulary.proofs.Those.{first-some, first-none, those-agree, those-never}
-use Rattle.vocabulary.proofs.Each.{each-agree}
 use Rattle.vocabulary.proofs.Bools.{either, both, true-or-false}
 use Rattle.ids.specs.declared.Label.{Label}
 use Rattle.register.specs.Register.{Register, folders}
-use Rattle.policy.specs.Rules.{writes, revokes, rivals, foreigners, stakes, lost, cellAfter, rowAfter}
+use Rattle.policy.specs.Rules.{writes, revokes, rivals, foreigners, stakes, lost}
 use Rattle.policy.specs.Outcome.{wallChecks, wallAnswer}
-use Rattle.row.specs.Row.{listsFit, fitting, rowAnswer, ruled, lostOn, rowGranted}
-use Rattle.row.specs.Cut.{labelAt, allOf, firstOf, leftAt}
-use Rattle.row.specs.declared.rules.Sort.{Sort}
-use Rattle.row.specs.declared.rules.Sort.the-variants.{Rival, Foreign, AtStake}
-use Rattle.row.proofs.Fitting.{fits-are, lostOn-fits, rowGranted-fits}
+use Rattle.cell_rules.specs.declared.Sort.{Sort}
+use Rattle.cell_rules.specs.declared.Sort.the-variants.{Rival, Foreign, AtStake}
+use Rattle.row_labels.specs.Fitting.{listsFit, fitting}
+use Rattle.row_labels.specs.Cut.{labelAt}
+use Rattle.row_labels.proofs.Fitting.{fits-are}
+use Rattle.row.specs.Row.{rowAnswer, ruled, lostOn}
+use Rattle.row.specs.Cut.{allOf, firstOf}
+use Rattle.row.proofs.Fitting.{lostOn-fits}
 
 -- A kind that enters a write right is not the careful read.
 writes-other : (kind : ℕ) → writes kind ≡ true → eqb kind 2 ≡ false
@@ -103,13 +104,3 @@ module _ (r : Register) (row : List ℕ) (o kind : ℕ) {a b : Bool} (fit : a �
       by : (fitting r row o ≡ true) ⊎ (fitting r row o ≡ false) → lostOn r row o kind ≡ []
       by (inl f) = let none = rw (fit, revoking, f) at e in rw f (those-never _ (folders r) (λ k h. rw none))
       by (inr f) = rw f
-
--- The walk leaves the row that the rules say.
-pub granted-left : (r : Register) (row : List ℕ) (o kind : ℕ) → fitting r row o ≡ true → (l : Label) → l ≡ labelAt (r .classes) (r .clients) o →
-    each (leftAt (r .classes) (r .clients) l o kind) row ≡ rowGranted r row o kind
-unfolding rowAfter
-granted-left r row o kind fit l asked = rw (rowGranted-fits r row o kind fit, asked) (each-agree _ (cellAfter r row o kind) row (λ i h. refl))
-
-pub unfit-left : (r : Register) (row : List ℕ) (o kind : ℕ) → fitting r row o ≡ false → row ≡ rowGranted r row o kind
-unfolding rowGranted
-unfit-left r row o kind e = rw e

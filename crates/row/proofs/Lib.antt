@@ -1,6 +1,4 @@
 -- For callers:
 pub mod Fitting
-pub mod Wall
--- For the proofs of this crate:
+-- For the proofs of this crate and of `row_grant`:
 pub mod Cut
-pub mod Listed

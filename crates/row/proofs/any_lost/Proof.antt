@@ -1,6 +1,6 @@
 -- `any_lost` meets its contract: what is at stake is lost where lists and folder fit and the kind revokes, and nothing elsewhere.
 use Rattle.row.proofs.Cut.{fits-first, lost-stakes, lost-none}
-use Rattle.row.proofs.Fitting.{fits-are, folder-listed}
+use Rattle.row_labels.proofs.Fitting.{fits-are}
 use Rattle.vocabulary.specs.Those.{some}
 use mathlib.Core.Path.{sym, ap, _∙_}
 use borrow.Author.Needs.{needs}
@@ -14,8 +14,7 @@ revokes-requires : tie.Need-revokes-requires
 revokes-requires c κs = search needs
 
 label-of-requires : tie.Need-label-of-requires
-label-of-requires c κs =
-    folder-listed _ _ _ (fits-first _ _ _ (c .before .revokes .result) (c .before .before .fits2 .ensures) (c .if1 .taken))
+label-of-requires c κs = search needs
 
 any-requires : tie.Need-any-requires
 any-requires c κs =

@@ -1,6 +1,6 @@
 -- `decide` meets its contract: rows 1 and 6 of the table, then the wall.
 use Rattle.row.proofs.Cut.{says-unfit, says-unknown, says-wall}
-use Rattle.row.proofs.Fitting.{lists-are}
+use Rattle.row_labels.proofs.Fitting.{lists-are}
 use borrow.Author.Tests.{not-true, not-false}
 use mathlib.Core.Path.{sym, _∙_}
 use borrow.Author.Needs.{needs}
@@ -23,7 +23,7 @@ returns-2 c =
 
 judge-wall-requires : tie.Need-judge-wall-requires
 judge-wall-requires c κs =
-    let p = lists-are _ _ (sym (c .before .before .before .lists-fit .ensures) ∙ not-false _ (c .before .before .if1 .left)) in (p .0, p .1, c .if2 .left)
+    lists-are _ _ (sym (c .before .before .before .lists-fit .ensures) ∙ not-false _ (c .before .before .if1 .left))
 
 returns-3 : tie.Need-returns-3
 returns-3 c =

@@ -23,11 +23,23 @@ unfolding those
 loop-holds c =
     (omega arith, refl)
 
-shared-slice-read-of-sort : tie.Need-shared-slice-read-of-sort Inv-loop μ-loop
-shared-slice-read-of-sort c = search needs
+shared-slice-read-cell : tie.Need-shared-slice-read-cell Inv-loop μ-loop
+shared-slice-read-cell c = search needs
 
-label-at-requires : tie.Need-label-at-requires Inv-loop μ-loop
-label-at-requires c κs = search needs
+mul-class : tie.Need-mul-class Inv-loop μ-loop
+mul-class c = search needs
+
+shared-slice-read-class : tie.Need-shared-slice-read-class Inv-loop μ-loop
+shared-slice-read-class c = search needs
+
+mul-client : tie.Need-mul-client Inv-loop μ-loop
+mul-client c = search needs
+
+shared-slice-read-client : tie.Need-shared-slice-read-client Inv-loop μ-loop
+shared-slice-read-client c = search needs
+
+labelled-requires : tie.Need-labelled-requires Inv-loop μ-loop
+labelled-requires c κs = search needs
 
 of-sort-requires : tie.Need-of-sort-requires Inv-loop μ-loop
 of-sort-requires c κs = search needs
@@ -40,7 +52,7 @@ loop-less c = search needs
 
 loop-again : tie.Need-loop-again Inv-loop μ-loop
 loop-again c =
-    (omega arith, rw (some-those-suc, c .of-sort .ensures, c .before .label-at .ensures, c .before .before .before .before .loop .inv .1))
+    (omega arith, rw (some-those-suc, c .of-sort .ensures, c .before .labelled .ensures, c .before .before .before .before .before .before .loop .inv .1))
 
 returns : tie.Need-returns Inv-loop μ-loop
 returns c =
@@ -53,8 +65,12 @@ any-spec =
     Inv-loop
     μ-loop
     loop-holds
-    shared-slice-read-of-sort
-    label-at-requires
+    shared-slice-read-cell
+    mul-class
+    shared-slice-read-class
+    mul-client
+    shared-slice-read-client
+    labelled-requires
     of-sort-requires
     add-f
     loop-less

@@ -24,18 +24,30 @@ unfolding those
 loop-holds c =
     (omega arith, refl)
 
-shared-slice-read-of-sort : tie.Need-shared-slice-read-of-sort Inv-loop μ-loop
-shared-slice-read-of-sort c = search needs
+shared-slice-read-cell : tie.Need-shared-slice-read-cell Inv-loop μ-loop
+shared-slice-read-cell c = search needs
 
-label-at-requires : tie.Need-label-at-requires Inv-loop μ-loop
-label-at-requires c κs = search needs
+mul-class : tie.Need-mul-class Inv-loop μ-loop
+mul-class c = search needs
+
+shared-slice-read-class : tie.Need-shared-slice-read-class Inv-loop μ-loop
+shared-slice-read-class c = search needs
+
+mul-client : tie.Need-mul-client Inv-loop μ-loop
+mul-client c = search needs
+
+shared-slice-read-client : tie.Need-shared-slice-read-client Inv-loop μ-loop
+shared-slice-read-client c = search needs
+
+labelled-requires : tie.Need-labelled-requires Inv-loop μ-loop
+labelled-requires c κs = search needs
 
 of-sort-requires : tie.Need-of-sort-requires Inv-loop μ-loop
 of-sort-requires c κs = search needs
 
 returns : tie.Need-returns Inv-loop μ-loop
 returns c =
-    sym (first-found _ _ _ _ (c .before .before .before .before .before .loop .inv .1) (rw (c .before .before .label-at .ensures) at (sym (c .before .of-sort .ensures) ∙ c .if1 .taken)) (c .before .before .before .before .loop-test .taken))
+    sym (first-found _ _ _ _ (c .before .before .before .before .before .before .before .loop .inv .1) (rw (c .before .before .labelled .ensures) at (sym (c .before .of-sort .ensures) ∙ c .if1 .taken)) (c .before .before .before .before .before .before .loop-test .taken))
 
 add-f : tie.Need-add-f Inv-loop μ-loop
 add-f c = search needs
@@ -45,7 +57,7 @@ loop-less c = search needs
 
 loop-again : tie.Need-loop-again Inv-loop μ-loop
 loop-again c =
-    (omega arith, those-none _ _ (c .before .before .before .before .before .loop .inv .1) (rw (c .before .before .label-at .ensures) at (sym (c .before .of-sort .ensures) ∙ c .if1 .left)))
+    (omega arith, those-none _ _ (c .before .before .before .before .before .before .before .loop .inv .1) (rw (c .before .before .labelled .ensures) at (sym (c .before .of-sort .ensures) ∙ c .if1 .left)))
 
 returns-2 : tie.Need-returns-2 Inv-loop μ-loop
 returns-2 c =
@@ -58,8 +70,12 @@ first-spec =
     Inv-loop
     μ-loop
     loop-holds
-    shared-slice-read-of-sort
-    label-at-requires
+    shared-slice-read-cell
+    mul-class
+    shared-slice-read-class
+    mul-client
+    shared-slice-read-client
+    labelled-requires
     of-sort-requires
     returns
     add-f

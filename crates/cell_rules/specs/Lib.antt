@@ -1,0 +1,2 @@
+-- Internal:
+pub mod Cut

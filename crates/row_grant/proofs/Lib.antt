@@ -1,0 +1,4 @@
+-- For callers:
+pub mod Granted
+-- For the proofs of this crate:
+pub mod Listed

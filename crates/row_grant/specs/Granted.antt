@@ -1,0 +1,32 @@
+-- A grant on a row alone: what is lost, listed in a lent array, and the row that is left (document 01, 'The four kinds of request'). A row may be
+-- given with any lists and any folder.
+use Prim.Native.Nat.{ℕ}
+use mathlib.Core.Bool.{cond}
+use mathlib.Core.List.{List, []}
+use lib.ListN.{length, set}
+use lib.Seq.{sets}
+use lib.Dec.{leb}
+use Rattle.register.specs.Register.{Register}
+use Rattle.policy.specs.Rules.{rowAfter}
+use Rattle.row_labels.specs.Fitting.{fitting}
+use Rattle.row.specs.Row.{lostOn}
+
+-- Folders listed in a lent array: how many, and the array, with the folders from its start and a 0 after them, the rest as it was.
+pub record Listed : Type 0 where
+  pub count : ℕ
+  pub list : List ℕ
+
+abbrev pub listedAtStart : List ℕ → List ℕ → Listed
+listedAtStart array l =
+    record {
+      count = length l;
+      list = set (sets array 0 l) (length l) 0;
+    }
+
+-- The folders lost, listed in a lent array; none where it has fewer places than the row.
+unfoldable pub lostListed : List ℕ → Register → List ℕ → ℕ → ℕ → Listed
+lostListed array r row o kind = listedAtStart array (cond (leb (length row) (length array)) (lostOn r row o kind) [])
+
+-- The row after a grant; the row as it was where lists or folder do not fit it.
+unfoldable pub rowGranted : Register → List ℕ → ℕ → ℕ → List ℕ
+rowGranted r row o kind = cond (fitting r row o) (rowAfter r row o kind) row

@@ -1,0 +1,4 @@
+-- The rules:
+pub mod Granted
+-- Internal:
+pub mod Cut

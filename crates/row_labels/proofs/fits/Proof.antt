@@ -1,0 +1,19 @@
+-- `fits` meets its contract: each test is that of the definition.
+use Rattle.row_labels.specs.Fitting.{fitting}
+use borrow.Author.Needs.{needs}
+use Rattle.row_labels.proofs.fits.Statement.{statement}
+use Rattle.row_labels.proofs.fits.Tie as tie
+
+lists-fit-requires : tie.Need-lists-fit-requires
+lists-fit-requires c κs = search needs
+
+cast-result : tie.Need-cast-result
+cast-result c = search needs
+
+returns : tie.Need-returns
+unfolding fitting
+returns c =
+    rw (c .before .lists-fit .ensures)
+
+pub fits-spec : {M : Type 1} → statement M
+fits-spec = tie.close (tie.spec lists-fit-requires cast-result returns)

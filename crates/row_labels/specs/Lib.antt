@@ -1,0 +1,4 @@
+-- The rules:
+pub mod Fitting
+-- Internal:
+pub mod Cut

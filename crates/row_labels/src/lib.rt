@@ -1,0 +1,44 @@
+// The two lists of labels that a caller lends beside a login's row: whether they fit it, and a folder's label. Rows, lists and folders of any lengths
+// and numbers may be given.
+use ids::ClassNo;
+use ids::ClientNo;
+use ids::FolderNo;
+use ids::Label;
+ghost use mathlib.Core.Path.{_≡_};
+ghost use lib.ListN.{getD};
+ghost use Rattle.register.specs.Lent.{lentFolders};
+ghost use Rattle.row_labels.specs.Fitting.{listsFit, fitting};
+ghost use Rattle.row_labels.specs.Cut.{labelAt};
+
+// Whether the lists are of the row's length and it has at most 512 folders.
+pub fn lists_fit(row: &[u8], classes: &[u16], clients: &[u16]) -> bool
+    ensures { λ r. ⌜ r ≡ listsFit (lentFolders classes clients) (now (row .entry)) ⌝ }
+{
+    (classes.len() == row.len()) & (clients.len() == row.len()) & (row.len() <= 512)
+}
+
+// Whether the folder is in the row too.
+pub fn fits(row: &[u8], classes: &[u16], clients: &[u16], folder: FolderNo) -> bool
+    ensures { λ r. ⌜ r ≡ fitting (lentFolders classes clients) (now (row .entry)) (folder .0) ⌝ }
+{
+    lists_fit(row, classes, clients) & ((folder.0 as usize) < row.len())
+}
+
+// What stands at a place; 0 past the end.
+fn at_or_0(list: &[u16], i: usize) -> u16
+    ensures { λ r. ⌜ r ≡ getD (now (list .entry)) i 0 ⌝ }
+{
+    if i < list.len() {
+        return list[i];
+    }
+    0
+}
+
+// The label of a folder, with 0 for a class or a client that its list does not have. A walk, whose places are in the lists, takes them itself.
+pub fn label_of(classes: &[u16], clients: &[u16], folder: FolderNo) -> Label
+    ensures { λ r. ⌜ r ≡ labelAt (now (classes .entry)) (now (clients .entry)) (folder .0) ⌝ }
+{
+    let class = at_or_0(classes, folder.0 as usize);
+    let client = at_or_0(clients, folder.0 as usize);
+    ids::labelled(ClassNo(class), ClientNo(client))
+}
