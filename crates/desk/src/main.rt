@@ -3,7 +3,7 @@ use desk_core::Opening;
 use desk_print::Text;
 use libc::STDIN_FILENO;
 use libc::STDOUT_FILENO;
-use monitor::Tail;
+use log_writer::Tail;
 ghost use mathlib.Core.Path.{_≡_};
 ghost use lib.ListN.{length};
 

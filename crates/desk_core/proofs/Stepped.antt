@@ -12,9 +12,9 @@ use Rattle.register.specs.Register.{Register}
 use Rattle.policy.specs.Outcome.{Request, Log, Outcome, isLogged, told, toldAnswer, outcome}
 use Rattle.policy.specs.Session.{answerLine}
 use Rattle.policy.specs.Session as session
-use Rattle.monitor.specs.declared.Reply.{Reply}
+use Rattle.log_writer.specs.declared.Reply.{Reply}
 use Rattle.response.specs.Response.{responseAnswer}
-use Rattle.monitor.specs.Reply.{replied}
+use Rattle.log_writer.specs.Reply.{replied}
 use Rattle.desk_print.specs.declared.Text.{Text}
 use Rattle.desk_print.specs.Text.{textOf}
 use Rattle.desk_answers.specs.Recorded.{answerText}

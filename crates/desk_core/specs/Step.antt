@@ -11,7 +11,7 @@ use Rattle.policy.specs.Outcome.{Log, Outcome, outcome}
 use Rattle.policy.specs.Session.{answerLine}
 use Rattle.policy.specs.Session as session
 use Rattle.desk_print.specs.declared.Text.{Text}
-use Rattle.monitor.specs.declared.Tail.{Tail}
+use Rattle.log_writer.specs.declared.Tail.{Tail}
 use Rattle.desk_core.specs.declared.Opening.{Opening}
 use Rattle.desk_core.specs.declared.Progress.{Progress}
 use Rattle.desk_lines.specs.Lines.{Line, loginsLine, folderLine, requestLine, illLine, lineAt, lineNumber}

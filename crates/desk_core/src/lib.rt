@@ -2,10 +2,10 @@
 // its first request, and `step` one line after the other from there.
 use desk_lines::Line;
 use desk_print::Text;
-use monitor::Tail;
+use log_writer::Tail;
 ghost use mathlib.Core.Path.{_≡_};
 ghost use Rattle.register.specs.Lent.{lent};
-ghost use Rattle.monitor.specs.Reply.{logOf};
+ghost use Rattle.log_writer.specs.Reply.{logOf};
 ghost use Rattle.desk_core.specs.Step.{opened, openingOf, left, leftBy, stepped};
 
 mod heading; // the lines before the requests

@@ -3,7 +3,7 @@
 use ids::FolderNo;
 use ids::LoginNo;
 use ids::Request;
-use monitor::Tail;
+use log_writer::Tail;
 ghost use mathlib.Core.Path.{_≡_};
 ghost use Rattle.audit_log.specs.Reader.{checked, stepAt};
 ghost use Rattle.packing.specs.CopyOutcome.{packs, unpacks};

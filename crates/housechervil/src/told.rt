@@ -8,7 +8,7 @@ use audit_log::Checked;
 use audit_log::Entry;
 use audit_log::Item;
 use log_fields::Fault;
-use monitor::Reply;
+use log_writer::Reply;
 use packing::Packing;
 use packing::Unpacking;
 use register::Verdict;

@@ -2,32 +2,32 @@
 use Prim.Native.Nat.{ℕ, _+_, _*_, _-_, _≤_, _<_}
 use mathlib.Core.Path.{_≡_, refl, sym, ap, _∙_}
 use mathlib.Core.Logic.{_⊎_, inl, inr, ⊎-elim}
-use mathlib.Core.Bool.{Bool, true, false, cond, not, _&&_}
+use mathlib.Core.Bool.{Bool, true, false, cond}
 use mathlib.Core.List.{List, [], _∷_, _++_, append-assoc}
 use native.Mathlib.Nat.{mul-le-mul-right, mul-le-mul-left, le-trans}
-use native.Mathlib.Omega.{arith}
 use lib.ListN.{length, drop}
-use lib.Dec.{eqb, leb, ltb}
-use borrow.Author.Tests.{leb-false, eqb-true, eq-eqb, le-leb, lt-leb, lt-ltb, not-false}
+use lib.Dec.{eqb, ltb}
+use borrow.Author.Tests.{leb-false, eqb-true, le-ltb, not-false}
 use Rattle.vocabulary.specs.Answer.{Answer, Check, answer, judge}
 use Rattle.vocabulary.specs.Those.{those}
 use Rattle.vocabulary.proofs.Judge.{Passed, judge-append, judge-passed, judge-either, passed-append}
-use Rattle.vocabulary.proofs.Bools.{not-both, true-or-false, neither, cond-same}
+use Rattle.vocabulary.proofs.Bools.{not-both, true-or-false}
 use Rattle.log_records.specs.Record.{recordBytes}
 use Rattle.register.specs.Register.{Register, registerOf, folders, inRange, registerChecks, registerAnswer}
 use Rattle.register.proofs.Answers.{Ranged, inRange-ranged}
 use Rattle.policy.specs.Rules.{rowOf, withRow, cell, rowAfter, rivals, foreigners, stakes, lost}
-use Rattle.policy.specs.Outcome.{Request, Log, Outcome, requestChecks, wallChecks, wallAnswer, decision, byWall, isLogged, recordOf, unchanged, matrixAfter, logged, outcome, told}
+use Rattle.policy.specs.Outcome.{Request, Log, Outcome, requestChecks, wallChecks, wallAnswer, decision, isLogged, recordOf, unchanged, matrixAfter, logged, outcome, told}
 use Rattle.policy.proofs.Outcome.{logged-silent, outcome-unlogged}
 use Rattle.policy.proofs.Rows.{row-fits, length-rowOf, withRow-rowOf}
 use Rattle.cells.specs.Above.{aboves}
 use Rattle.row_labels.specs.Fitting.{listsFit, fitting}
-use Rattle.row_labels.proofs.Fitting.{fits-row}
 use Rattle.row.specs.Row.{rowAnswer}
-use Rattle.row.proofs.Fitting.{rowAnswer-fits}
 use Rattle.row_grant.specs.Granted.{rowGranted}
+use Rattle.row_labels.proofs.Fitting.{fits-row}
+use Rattle.row.proofs.Fitting.{rowAnswer-fits}
 use Rattle.row_grant.proofs.Granted.{rowGranted-fits}
-use Rattle.monitor.specs.Stages.{passed, frontChecks, fourToSeven, oneToSeven, rowChecks, servedAnswer, servedOutcome}
+use Rattle.row_request.specs.Served.{rowChecks, servedAnswer, servedOutcome}
+use Rattle.monitor.specs.Front.{passed, frontChecks, fourToSeven, oneToSeven}
 
 pub product-fits : {p f : ℕ} → p ≤ 128 → f ≤ 512 → p * f ≤ 65536
 product-fits {p} {f} a b = le-trans (mul-le-mul-right f a) (mul-le-mul-left 128 b)
@@ -166,8 +166,8 @@ module _ (r : Register) (m : List ℕ) (q : Request) (log : Log) where
     too-large = ap (those (λ f. ltb 3 (cell row f))) (sym (row-length o))
 
     late-served : late ≡ servedAnswer r row q (length (log .bytes)) (log .end)
-    unfolding servedAnswer requestChecks rowChecks
-    late-served = rw (too-large, rowAnswer-fits r row (q .folder) (q .kind) fits)
+    unfolding servedAnswer requestChecks rowChecks judge
+    late-served = rw (too-large, le-ltb 512 (length row) (rw (row-length o) (o .ranged .folders-few)), rowAnswer-fits r row (q .folder) (q .kind) fits)
 
     outcome-open : told (outcome r m q log) ≡ inMatrix (servedOutcome r row q log)
     unfolding outcome servedOutcome

@@ -1,5 +1,1 @@
-pub mod Logged
-pub mod Lost
 pub mod FirstRows
-pub mod Responses
-pub mod Served

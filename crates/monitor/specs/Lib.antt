@@ -1,4 +1,2 @@
--- The rules:
-pub mod Reply
 -- Internal:
-pub mod Stages
+pub mod Front

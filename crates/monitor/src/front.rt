@@ -6,8 +6,8 @@ ghost use Prim.Native.Nat.{_≤_};
 ghost use mathlib.Core.Path.{_≡_};
 ghost use Rattle.register.specs.Lent.{lent};
 ghost use Rattle.response.specs.Response.{responseAnswer};
-ghost use Rattle.monitor.specs.Reply.{requestOf};
-ghost use Rattle.monitor.specs.Stages.{fourToSeven, oneToSeven};
+ghost use Rattle.log_writer.specs.Reply.{requestOf};
+ghost use Rattle.monitor.specs.Front.{fourToSeven, oneToSeven};
 
 // Rows 4 to 7, once P and F are in range.
 fn known(logins: usize, folders: usize, size: usize, asked: Request) -> Response

@@ -1,26 +1,14 @@
 // The reference monitor (document 01, 'The four kinds of request' and 'Where each refusal is checked').
 use ids::Request;
+use log_writer::Reply;
+use log_writer::Tail;
 use response::Response;
 ghost use mathlib.Core.Path.{_≡_};
 ghost use Rattle.register.specs.Lent.{lent};
 ghost use Rattle.policy.specs.Outcome.{outcome, told};
-ghost use Rattle.monitor.specs.Reply.{requestOf, logOf, replied};
+ghost use Rattle.log_writer.specs.Reply.{requestOf, logOf, replied};
 
 mod front; // register, matrix and request judged
-mod record; // a decision carried out: the record, then the row
-mod serve; // a request on the row of the login that asks
-
-// Where the log ends, and the serial of its next record.
-pub struct Tail {
-    pub end: usize,
-    pub serial: u16,
-}
-
-// What a request is answered, and the log's tail after it.
-pub struct Reply {
-    pub response: Response,
-    pub tail: Tail,
-}
 
 // A request, judged by every row of the table and carried out.
 pub fn request(
@@ -40,7 +28,7 @@ pub fn request(
             let folders = classes.len();
             let start = (asked.login.0 as usize) * folders;
             let stop = start + folders;
-            serve::serve(&mut matrix[start..stop], classes, clients, asked, log, tail)
+            row_request::serve(&mut matrix[start..stop], classes, clients, asked, log, tail)
         }
         _ => Reply {
             response: first,

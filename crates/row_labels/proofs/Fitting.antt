@@ -3,6 +3,7 @@ use Prim.Native.Nat.{ℕ, _≤_, _<_}
 use mathlib.Core.Path.{_≡_}
 use mathlib.Core.Bool.{true, _&&_}
 use mathlib.Core.List.{List}
+use native.Mathlib.Omega.{arith}
 use lib.ListN.{length}
 use lib.Dec.{eqb, leb, ltb}
 use borrow.Author.Tests.{eq-eqb, eqb-true, le-leb, leb-true, lt-ltb, ltb-true}
@@ -38,3 +39,7 @@ module _ (r : Register) (row : List ℕ) where
 
     pub fits-are : Alongside row (r .classes) (r .clients) × (length row ≤ 512)
     fits-are = lists-are lists-fitting
+
+    -- The folder has a place in both lists.
+    pub folder-listed : (o < folders r) × (o < length (r .clients))
+    folder-listed = let p = fits-are in let h = folder-in in (omega (arith, p .0), omega (arith, p .0))

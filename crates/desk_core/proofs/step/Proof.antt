@@ -1,7 +1,7 @@
 -- `step` meets its contract: a request's reply is printed as its line; anything else ends the run. That the serial is one of 16 bits is
 -- what owning the tail tells (`good`).
 use mathlib.Core.Path.{sym, ap, _∙_}
-use Rattle.monitor.specs.Reply.{logOf}
+use Rattle.log_writer.specs.Reply.{logOf}
 use Rattle.register.specs.Register.{registerOf}
 use Rattle.desk_lines.specs.Lines.{lineOf}
 use Rattle.desk_core.proofs.Arms.{no-request}

@@ -1,8 +1,9 @@
 -- `request` meets its contract: a refusal of the first rows is the outcome; otherwise the row is served in its place in the matrix.
 use native.Mathlib.Nat.{add-sub-cancel-left}
-use Rattle.monitor.specs.Reply.{requestOf, logOf}
-use Rattle.monitor.proofs.Responses.{not-granted}
-use Rattle.monitor.proofs.FirstRows.{opened, row-within, row-length, outcome-served, outcome-refused}
+use Rattle.register.specs.Register.{registerOf}
+use Rattle.log_writer.specs.Reply.{requestOf, logOf}
+use Rattle.response.proofs.NotGranted.{not-granted}
+use Rattle.monitor.proofs.FirstRows.{opened, row-within, outcome-served, outcome-refused}
 use native.Mathlib.Omega.{arith}
 use borrow.Author.Needs.{needs}
 use Rattle.monitor.proofs.request.Statement.{statement}
@@ -39,9 +40,7 @@ part-serve-end c =
     omega arith
 
 serve-requires : tie.Need-serve-requires
-serve-requires c κs =
-    let o = opened _ (c .before .before .before .before .before .before .before .before .before .before .args .matrix .now) _ _ (rw (c .before .before .before .enum-told .given .1) at (c .before .before .before .before .before .judge-front .ensures)) in
-    rw (add-sub-cancel-left, row-length o) (o .ranged .folders-few)
+serve-requires c κs = search needs
 
 same-length : tie.Need-same-length
 same-length c = search needs
@@ -57,7 +56,8 @@ returns c =
 
 returns-2 : tie.Need-returns-2
 returns-2 c =
-    outcome-refused _ _ _ _ _ (not-granted (c .before .judge-front .result) (c .match .keys2)) (c .before .judge-front .ensures)
+    let s = c .before .before .before .before .before .before .args in
+    outcome-refused (registerOf (s .logins) (s .classes .now) (s .clients .now)) (s .matrix .now) (requestOf (s .asked)) (logOf (s .log .now) (s .tail)) _ (not-granted (c .before .judge-front .result) (c .match .keys2)) (c .before .judge-front .ensures)
 
 pub request-spec : {M : Type 1} → statement M
 request-spec =

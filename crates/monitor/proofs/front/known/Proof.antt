@@ -1,7 +1,7 @@
 -- `known` meets its contract: each test is a row of the definition.
 use borrow.Author.Tests.{eq-eqb, ne-eqb, le-leb, lt-leb}
 use Rattle.vocabulary.specs.Answer.{judge}
-use Rattle.monitor.specs.Stages.{frontChecks, fourToSeven}
+use Rattle.monitor.specs.Front.{frontChecks, fourToSeven}
 use Rattle.monitor.proofs.FirstRows.{product-fits}
 use native.Mathlib.Omega.{arith}
 use borrow.Author.Needs.{needs}

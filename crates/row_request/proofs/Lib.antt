@@ -1,0 +1,4 @@
+pub mod Decided
+pub mod Served
+pub mod Lost
+pub mod Entered

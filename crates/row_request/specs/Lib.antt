@@ -1,0 +1,4 @@
+-- The rules:
+pub mod Served
+-- Internal:
+pub mod Cut

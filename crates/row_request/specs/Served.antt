@@ -1,0 +1,34 @@
+-- A request on a row alone: what is answered and what is left (document 01, 'Where each refusal is checked', rows 8 to 30). The row may have any
+-- length, and any lists and any folder may be given with it: a row of over 512 folders gets 1 before its cells are looked at; lists of another length get
+-- 1, and a folder that is not in the row 6, where the row's crate judges them, before the wall. Row 7 is not judged here.
+use Prim.Native.Nat.{ℕ}
+use mathlib.Core.Bool.{cond}
+use mathlib.Core.List.{List, [], _∷_}
+use lib.Dec.{eqb, ltb}
+use lib.ListN.{length}
+use Rattle.vocabulary.specs.Answer.{Answer, Check, check, judge}
+use Rattle.vocabulary.specs.Those.{some, smallest}
+use Rattle.cells.specs.Above.{aboves}
+use Rattle.register.specs.Register.{Register}
+use Rattle.policy.specs.Outcome.{Request, Log, Outcome, isLogged, logged, unchanged, told}
+use Rattle.row.specs.Row.{rowAnswer}
+use Rattle.row_grant.specs.Granted.{rowGranted}
+
+-- Row 1 as far as it concerns the row, and rows 8 and 9, of the row, the log's length and its end.
+unfoldable pub rowChecks : List ℕ → (size end : ℕ) → List Check
+rowChecks row size end =
+    check (ltb 512 (length row)) 1 []
+    ∷ check (some (aboves row)) 8 (smallest (aboves row) ∷ [])
+    ∷ check (ltb size end) 9 []
+    ∷ []
+
+-- The decision on a row: every row of the table but 30.
+unfoldable pub servedAnswer : Register → List ℕ → Request → (size end : ℕ) → Answer
+servedAnswer r row q size end = judge (rowChecks row size end) (rowAnswer r row (q .folder) (q .kind))
+
+-- What a request leaves on a row: the row stands in the matrix's place.
+unfoldable pub servedOutcome : Register → List ℕ → Request → Log → Outcome
+servedOutcome r row q log =
+    let a : Answer = servedAnswer r row q (length (log .bytes)) (log .end) in
+    let after : List ℕ = cond (eqb (a .number) 0) (rowGranted r row (q .folder) (q .kind)) row in
+    told (cond (isLogged a) (logged q log a row after) (unchanged a row log))
