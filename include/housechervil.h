@@ -31,6 +31,8 @@
 #include <stddef.h>
 #include <stdint.h>
 
+#define HC_VERSION "0.1.0"
+
 #define HC_LOGINS_MAX 128   /* the most logins */
 #define HC_FOLDERS_MAX 512  /* the most folders */
 #define HC_MATRIX_MAX 65536 /* the bytes of the largest matrix */
