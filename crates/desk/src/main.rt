@@ -1,9 +1,9 @@
 // The desk (document 01, 'The desk program'): standard input to `desk_core` to standard output, nothing else.
 use desk_core::Opening;
-use desk_print::Text;
 use libc::STDIN_FILENO;
 use libc::STDOUT_FILENO;
 use monitor::Tail;
+use text_lines::Text;
 ghost use mathlib.Core.Path.{_≡_};
 ghost use lib.ListN.{length};
 

@@ -7,7 +7,7 @@ use Rattle.desk_lines.specs.declared.Line.the-variants as line
 use Rattle.desk_lines.specs.declared.Line.{Line}
 use Rattle.desk_core.specs.Output.{isRequest, Filed, filed, filedOn}
 use Rattle.desk_core.specs.Step.{closedWith, firstOn}
-use Rattle.desk_print.specs.Text.{badLine}
+use Rattle.desk_print.specs.Lines.{badLine}
 use Rattle.desk_lines.specs.Lines.{lineOf}
 use Rattle.desk_lines.proofs.Line.{the-type}
 use types.Run.{OneOf, miss}

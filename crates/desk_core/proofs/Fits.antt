@@ -17,7 +17,7 @@ use Rattle.log_exact.proofs.Rising.{rising-less}
 use Rattle.log_exact.proofs.Appended.{logged-well-formed}
 use Rattle.desk_lines.specs.Lines.{Line, loginsLine, folderLine, requestLine, illLine, lineAt, lineNumber}
 use Rattle.desk_lines.proofs.Ended.{ended-most}
-use Rattle.desk_print.specs.Text.{badLine}
+use Rattle.desk_print.specs.Lines.{badLine}
 use Rattle.desk_print.proofs.Fits.{input-too-long-fits, bad-line-fits, bad-register-fits, serial-fits, dash-fits}
 use Rattle.desk_core.specs.Output.{Filed, filedAt, registerFiled, lineText, ending, isRequest}
 use Rattle.desk_core.specs.Step.{openedWith, openedOn, firstOn, opened, steppedOn, stepped}

@@ -19,8 +19,9 @@ use Rattle.policy.proofs.Accepted.{in-range}
 use Rattle.log_exact.proofs.Appended.{logged-left}
 use Rattle.log_exact.proofs.WriterPasses.{unlogged-left}
 use Rattle.desk_lines.specs.Lines.{Line, loginsLine, folderLine, requestLine, illLine, lineAt, lineNumber}
-use Rattle.desk_print.specs.Text.{inputTooLong, badLine, badRegister, textOf, shown}
-use Rattle.desk_print.proofs.Printed.{taken, shown-text}
+use Rattle.text_lines.specs.Text.{textOf, shown}
+use Rattle.desk_print.specs.Lines.{inputTooLong, badLine, badRegister}
+use Rattle.text_lines.proofs.Printed.{taken, shown-text}
 use Rattle.desk_core.specs.Output.{Filed, filedAt, registerFiled, askedBy, askedAt, lineText, linesText, ending, isRequest, served, checkedThen, filedThen, firstThen, output}
 use Rattle.desk_core.specs.Step.{Opened, opened, openedOn, openedWith, closedWith, firstOn, Stepped, stepped, openingOf}
 use Rattle.desk_core.specs.Joined.{stepsBy, run, Joined}

@@ -15,8 +15,8 @@ use Rattle.policy.specs.Session as session
 use Rattle.monitor.specs.declared.Reply.{Reply}
 use Rattle.response.specs.Response.{responseAnswer}
 use Rattle.monitor.specs.Reply.{replied}
-use Rattle.desk_print.specs.declared.Text.{Text}
-use Rattle.desk_print.specs.Text.{textOf}
+use Rattle.text_lines.specs.declared.Text.{Text}
+use Rattle.text_lines.specs.Text.{textOf}
 use Rattle.desk_answers.specs.Recorded.{answerText}
 use Rattle.desk_answers.proofs.Answered.{logged-text}
 use Rattle.desk_lines.specs.Lines.{Line, loginsLine, folderLine, requestLine, illLine, lineAt}

@@ -8,7 +8,7 @@ use Rattle.register.specs.Register.{Register, registerOf}
 use Rattle.policy.specs.Outcome.{Log}
 use Rattle.policy.specs.Session.{newLog}
 use Rattle.monitor.specs.Reply.{logOf}
-use Rattle.desk_print.specs.Text.{shown}
+use Rattle.text_lines.specs.Text.{shown}
 use Rattle.desk_core.specs.declared.Opening.{Opening}
 use Rattle.desk_core.specs.Output.{output}
 use Rattle.desk_core.specs.Step.{opened, openingOf, stepped, Left, leftBy}

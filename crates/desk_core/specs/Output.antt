@@ -9,7 +9,7 @@ use Rattle.policy.specs.Outcome.{Request}
 use Rattle.policy.specs.Session.{AnswerLine, serialLine, dashLine, newLog, session}
 use Rattle.policy.specs.Session as session
 use Rattle.desk_lines.specs.Lines.{Line, loginsLine, folderLine, requestLine, illLine, lineAt, lineNumber}
-use Rattle.desk_print.specs.Text.{inputTooLong, badLine, badRegister, serialText, dashText}
+use Rattle.desk_print.specs.Lines.{inputTooLong, badLine, badRegister, serialText, dashText}
 
 -- ---- the folders
 

@@ -10,12 +10,13 @@ use Rattle.register.specs.Register.{Register, registerOf, registerAnswer}
 use Rattle.policy.specs.Outcome.{Log, Outcome, outcome}
 use Rattle.policy.specs.Session.{answerLine}
 use Rattle.policy.specs.Session as session
-use Rattle.desk_print.specs.declared.Text.{Text}
+use Rattle.text_lines.specs.declared.Text.{Text}
 use Rattle.monitor.specs.declared.Tail.{Tail}
 use Rattle.desk_core.specs.declared.Opening.{Opening}
 use Rattle.desk_core.specs.declared.Progress.{Progress}
 use Rattle.desk_lines.specs.Lines.{Line, loginsLine, folderLine, requestLine, illLine, lineAt, lineNumber}
-use Rattle.desk_print.specs.Text.{inputTooLong, badLine, badRegister, textOf}
+use Rattle.text_lines.specs.Text.{textOf}
+use Rattle.desk_print.specs.Lines.{inputTooLong, badLine, badRegister}
 use Rattle.desk_core.specs.Output.{Filed, filedAt, registerFiled, lineText, ending, isRequest}
 
 -- ---- the opening

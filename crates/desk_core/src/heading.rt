@@ -1,15 +1,15 @@
 // The lines before the requests.
 use crate::Opening;
 use desk_lines::Line;
-use desk_print::Text;
 use register::Verdict;
+use text_lines::Text;
 ghost use mathlib.Core.Path.{_≡_};
 ghost use mathlib.Core.Bool.{_||_};
 ghost use lib.Dec.{leb};
 ghost use lib.ListN.{length, set};
 ghost use Rattle.desk_lines.specs.Lines.{lineAt};
 ghost use Rattle.desk_core.specs.Output.{Filed, filedAt, registerFiled, isRequest, ending};
-ghost use Rattle.desk_print.specs.Text.{textOf};
+ghost use Rattle.text_lines.specs.Text.{textOf};
 ghost use Rattle.desk_core.specs.Heading.{Kept, stored, storedIn};
 ghost use Rattle.desk_core.specs.Step.{closing, openedWith, openedOn, firstOn, openingOf};
 
@@ -82,7 +82,7 @@ fn checked(logins: u16, filing: Filing, classes: [u16; 512], clients: [u16; 512]
     let verdict = register::check(logins as usize, &classes[0..folders], &clients[0..folders]);
     match verdict {
         Verdict::Accepted => Opening {
-            text: desk_print::nothing(),
+            text: text_lines::nothing(),
             onward: true,
             logins: logins as usize,
             folders: folders,
@@ -109,7 +109,7 @@ pub(crate) fn ending(text: &[u8], place: usize) -> Text
     ensures { λ r. ⌜ r ≡ textOf (ending (now (text .entry)) place) ⌝ }
 {
     if text.len() <= place {
-        return desk_print::nothing();
+        return text_lines::nothing();
     }
     desk_print::bad_line(desk_lines::line_number(text, place))
 }

@@ -1,8 +1,8 @@
 // The desk's text interface over the monitor (document 01, 'The desk program'). The output is printed in steps: `open` takes the input up to
 // its first request, and `step` one line after the other from there.
 use desk_lines::Line;
-use desk_print::Text;
 use monitor::Tail;
+use text_lines::Text;
 ghost use mathlib.Core.Path.{_≡_};
 ghost use Rattle.register.specs.Lent.{lent};
 ghost use Rattle.monitor.specs.Reply.{logOf};

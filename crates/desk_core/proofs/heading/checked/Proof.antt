@@ -6,7 +6,7 @@ use lib.ListN.{length, replicate}
 use borrow.Author.Needs.{needs}
 use Rattle.register.specs.Verdict.{verdictAnswer}
 use Rattle.register.specs.Register.{registerOf, registerAnswer}
-use Rattle.desk_print.proofs.Printed.{part-text}
+use Rattle.text_lines.proofs.Printed.{part-text}
 use Rattle.desk_core.specs.Output.{Filed}
 use Rattle.desk_core.specs.Heading.{Stored, stored, Kept}
 use Rattle.desk_core.specs.Step.{openedWith}

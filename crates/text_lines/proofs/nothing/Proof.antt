@@ -1,8 +1,8 @@
 -- `nothing` meets its contract.
 use mathlib.Core.Path.{refl}
-use Rattle.desk_print.specs.Text.{textOf}
-use Rattle.desk_print.proofs.nothing.Statement.{statement}
-use Rattle.desk_print.proofs.nothing.Tie as tie
+use Rattle.text_lines.specs.Text.{textOf}
+use Rattle.text_lines.proofs.nothing.Statement.{statement}
+use Rattle.text_lines.proofs.nothing.Tie as tie
 
 returns : tie.Need-returns
 unfolding textOf
