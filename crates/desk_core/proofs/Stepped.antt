@@ -20,7 +20,8 @@ use Rattle.text_lines.specs.Text.{textOf}
 use Rattle.desk_answers.specs.Recorded.{answerText}
 use Rattle.desk_answers.proofs.Answered.{logged-text}
 use Rattle.desk_lines.specs.Lines.{Line, loginsLine, folderLine, requestLine, illLine, lineAt}
-use Rattle.desk_core.specs.Output.{lineText, isRequest}
+use Rattle.desk_opening.specs.Folders.{isRequest}
+use Rattle.desk_core.specs.Output.{lineText}
 use Rattle.desk_core.specs.Step.{over, steppedOn, stepped, left, leftBy, tailOf}
 
 -- ---- the line of an answer

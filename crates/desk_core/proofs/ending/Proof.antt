@@ -2,8 +2,8 @@
 use borrow.Author.Tests.{le-leb, lt-leb}
 use borrow.Author.Needs.{needs}
 use Rattle.desk_core.specs.Output.{ending}
-use Rattle.desk_core.proofs.heading.ending.Tie as tie
-use Rattle.desk_core.proofs.heading.ending.Statement.{statement}
+use Rattle.desk_core.proofs.ending.Tie as tie
+use Rattle.desk_core.proofs.ending.Statement.{statement}
 
 nothing-requires : tie.Need-nothing-requires
 nothing-requires c κs = search needs

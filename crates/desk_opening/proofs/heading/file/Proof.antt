@@ -4,13 +4,13 @@ use native.Mathlib.Omega.{arith}
 use mathlib.Core.Path.{_≡_, sym, ap, _∙_}
 use lib.ListN.{length}
 use borrow.Author.Needs.{needs}
-use Rattle.desk_core.specs.Output.{filedAt}
+use Rattle.desk_opening.specs.Folders.{filedAt}
 use Rattle.desk_lines.specs.Lines.{folderLine, lineAt, lineOf}
 use Rattle.desk_lines.proofs.Onward.{After, line-ahead}
-use Rattle.desk_core.proofs.Arms.{no-folder}
-use Rattle.desk_core.proofs.Filed.{Partway, partway-none, partway-more, partway-all, filed-on}
-use Rattle.desk_core.proofs.heading.file.Tie as tie
-use Rattle.desk_core.proofs.heading.file.Statement.{statement}
+use Rattle.desk_opening.proofs.Arms.{no-folder}
+use Rattle.desk_opening.proofs.Filed.{Partway, partway-none, partway-more, partway-all, filed-on}
+use Rattle.desk_opening.proofs.heading.file.Tie as tie
+use Rattle.desk_opening.proofs.heading.file.Statement.{statement}
 
 abbrev Inv-loop : tie.InvT-loop
 Inv-loop text place classes₀ clients₀ folders₀ at₀ classes clients folders at = Partway text place classes₀ clients₀ classes clients folders at

@@ -1,8 +1,8 @@
 -- `filing_ends` meets its contract: a request, or the end.
 use borrow.Author.Needs.{needs}
-use Rattle.desk_core.proofs.Arms.{no-request}
-use Rattle.desk_core.proofs.heading.filing_ends.Tie as tie
-use Rattle.desk_core.proofs.heading.filing_ends.Statement.{statement}
+use Rattle.desk_opening.proofs.Arms.{no-request}
+use Rattle.desk_opening.proofs.heading.filing_ends.Tie as tie
+use Rattle.desk_opening.proofs.heading.filing_ends.Statement.{statement}
 
 read-line-requires : tie.Need-read-line-requires
 read-line-requires c κs = search needs

@@ -2,8 +2,8 @@
 use mathlib.Core.Path.{sym}
 use lib.Seq.{set-out}
 use borrow.Author.Needs.{needs}
-use Rattle.desk_core.proofs.heading.store.Tie as tie
-use Rattle.desk_core.proofs.heading.store.Statement.{statement}
+use Rattle.desk_opening.proofs.heading.store.Tie as tie
+use Rattle.desk_opening.proofs.heading.store.Statement.{statement}
 
 mul-list : tie.Need-mul-list
 mul-list c = search needs

@@ -1,8 +1,8 @@
 -- `from_first` meets its contract: the line of the logins, or line 1 is told.
 use borrow.Author.Needs.{needs}
-use Rattle.desk_core.proofs.Arms.{no-logins}
-use Rattle.desk_core.proofs.heading.from_first.Tie as tie
-use Rattle.desk_core.proofs.heading.from_first.Statement.{statement}
+use Rattle.desk_opening.proofs.Arms.{no-logins}
+use Rattle.desk_opening.proofs.heading.from_first.Tie as tie
+use Rattle.desk_opening.proofs.heading.from_first.Statement.{statement}
 
 read-line-requires : tie.Need-read-line-requires
 read-line-requires c κs = search needs

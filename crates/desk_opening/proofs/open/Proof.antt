@@ -1,9 +1,9 @@
 -- `open` meets its contract: the length, then the first line.
 use borrow.Author.Tests.{lt-ltb, le-ltb}
 use borrow.Author.Needs.{needs}
-use Rattle.desk_core.specs.Step.{opened}
-use Rattle.desk_core.proofs.open.Tie as tie
-use Rattle.desk_core.proofs.open.Statement.{statement}
+use Rattle.desk_opening.specs.Opened.{opened}
+use Rattle.desk_opening.proofs.open.Tie as tie
+use Rattle.desk_opening.proofs.open.Statement.{statement}
 
 input-too-long-requires : tie.Need-input-too-long-requires
 input-too-long-requires c κs = search needs

@@ -7,9 +7,9 @@ use mathlib.Core.List.{List, [], _∷_}
 use lib.ListN.{length, set, length-set}
 use lib.Seq.{sets}
 use Rattle.desk_lines.specs.Lines.{Line, loginsLine, folderLine, requestLine, illLine, lineAt}
-use Rattle.desk_core.specs.declared.heading.Filing.{Filing}
-use Rattle.desk_core.specs.Heading.{Stored, stored, storedIn}
-use Rattle.desk_core.specs.Output.{Filed, filed, filedOn, filedBy, filedAt}
+use Rattle.desk_opening.specs.declared.heading.Filing.{Filing}
+use Rattle.desk_opening.specs.Heading.{Stored, stored, storedIn}
+use Rattle.desk_opening.specs.Folders.{Filed, filed, filedOn, filedBy, filedAt}
 use Rattle.desk_lines.proofs.Onward.{Ahead, line-ahead, line-past}
 
 -- Fuel that reaches the text's end is as good as more.

@@ -8,10 +8,9 @@ ghost use mathlib.Core.Bool.{_||_};
 ghost use lib.Dec.{leb};
 ghost use lib.ListN.{length, set};
 ghost use Rattle.desk_lines.specs.Lines.{lineAt};
-ghost use Rattle.desk_core.specs.Output.{Filed, filedAt, registerFiled, isRequest, ending};
-ghost use Rattle.text_lines.specs.Text.{textOf};
-ghost use Rattle.desk_core.specs.Heading.{Kept, stored, storedIn};
-ghost use Rattle.desk_core.specs.Step.{closing, openedWith, openedOn, firstOn, openingOf};
+ghost use Rattle.desk_opening.specs.Folders.{Filed, filedAt, isRequest, registerFiled};
+ghost use Rattle.desk_opening.specs.Heading.{Kept, closing, stored, storedIn};
+ghost use Rattle.desk_opening.specs.Opened.{firstOn, openedOn, openedWith, openingOf};
 
 // How many folders were filed, and the place after their lines.
 struct Filing {
@@ -104,16 +103,6 @@ fn filing_ends(text: &[u8], place: usize) -> bool
     }
 }
 
-// What ends the run at a place: nothing at the text's end, else a line that is ill-formed or misplaced.
-pub(crate) fn ending(text: &[u8], place: usize) -> Text
-    ensures { λ r. ⌜ r ≡ textOf (ending (now (text .entry)) place) ⌝ }
-{
-    if text.len() <= place {
-        return text_lines::nothing();
-    }
-    desk_print::bad_line(desk_lines::line_number(text, place))
-}
-
 // From the folders' lines on.
 fn from_folders(text: &[u8], logins: u16, place: usize) -> Opening
     ensures { λ r. ⌜ r ≡ openingOf (openedOn logins (now (text .entry)) (filedAt (now (text .entry)) place)) ⌝ }
@@ -125,7 +114,7 @@ fn from_folders(text: &[u8], logins: u16, place: usize) -> Opening
     if filing_ends(text, end) {
         return checked(logins, filing, classes, clients);
     }
-    closed(ending(text, end))
+    closed(desk_print::bad_line(desk_lines::line_number(text, end)))
 }
 
 // From the first line on.

@@ -7,12 +7,12 @@ use borrow.Author.Needs.{needs}
 use Rattle.register.specs.Verdict.{verdictAnswer}
 use Rattle.register.specs.Register.{registerOf, registerAnswer}
 use Rattle.text_lines.proofs.Printed.{part-text}
-use Rattle.desk_core.specs.Output.{Filed}
-use Rattle.desk_core.specs.Heading.{Stored, stored, Kept}
-use Rattle.desk_core.specs.Step.{openedWith}
-use Rattle.desk_core.proofs.Opened.{register-over, refused}
-use Rattle.desk_core.proofs.heading.checked.Tie as tie
-use Rattle.desk_core.proofs.heading.checked.Statement.{statement}
+use Rattle.desk_opening.specs.Folders.{Filed}
+use Rattle.desk_opening.specs.Heading.{Stored, stored, Kept}
+use Rattle.desk_opening.specs.Opened.{openedWith}
+use Rattle.desk_opening.proofs.Opened.{register-over, refused}
+use Rattle.desk_opening.proofs.heading.checked.Tie as tie
+use Rattle.desk_opening.proofs.heading.checked.Statement.{statement}
 
 -- the check is of the folders that are kept
 verdict : (c : tie.After-check) (f : Filed) → Kept f (stored (c .before .before .before .before .before .before .args .filing) (c .before .before .before .before .before .before .args .t3) (c .before .before .before .before .before .before .args .t4))
