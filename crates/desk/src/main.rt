@@ -1,9 +1,9 @@
-// The desk (document 01, 'The desk program'): standard input to `desk_core` to standard output, nothing else.
-use desk_core::Opening;
-use desk_print::Text;
+// The desk (document 01, 'The desk program'): standard input to `desk_opening` and `desk_core` to standard output, nothing else.
+use desk_opening::Opening;
 use libc::STDIN_FILENO;
 use libc::STDOUT_FILENO;
 use log_writer::Tail;
+use text_lines::Text;
 ghost use mathlib.Core.Path.{_≡_};
 ghost use lib.ListN.{length};
 
@@ -11,7 +11,7 @@ fn main() {
     // one byte more than the desk takes, so that a longer input is seen to be one
     let mut input = [0u8; 65537];
     let n = io::read_full(STDIN_FILENO, &mut input);
-    let opening = desk_core::open(&input[0..n]);
+    let opening = desk_opening::open(&input[0..n]);
     let text = opening.text;
     if show(text) & opening.onward {
         serve(&input[0..n], opening);

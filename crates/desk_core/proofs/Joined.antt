@@ -1,4 +1,4 @@
--- The steps print the whole output.
+-- The opening and the steps print the whole output.
 use Prim.Native.Nat.{ℕ, zero, suc, _+_, _*_, _≤_, _<_, _^_}
 use native.Mathlib.Omega.{arith}
 use mathlib.Core.Path.{_≡_, refl, ap, sym, _∙_}
@@ -19,13 +19,17 @@ use Rattle.policy.proofs.Accepted.{in-range}
 use Rattle.log_exact.proofs.Appended.{logged-left}
 use Rattle.log_exact.proofs.WriterPasses.{unlogged-left}
 use Rattle.desk_lines.specs.Lines.{Line, loginsLine, folderLine, requestLine, illLine, lineAt, lineNumber}
-use Rattle.desk_print.specs.Text.{inputTooLong, badLine, badRegister, textOf, shown}
-use Rattle.desk_print.proofs.Printed.{taken, shown-text}
-use Rattle.desk_core.specs.Output.{Filed, filedAt, registerFiled, askedBy, askedAt, lineText, linesText, ending, isRequest, served, checkedThen, filedThen, firstThen, output}
-use Rattle.desk_core.specs.Step.{Opened, opened, openedOn, openedWith, closedWith, firstOn, Stepped, stepped, openingOf}
+use Rattle.text_lines.specs.Text.{textOf, shown}
+use Rattle.desk_print.specs.Lines.{inputTooLong, badLine, badRegister}
+use Rattle.text_lines.proofs.Printed.{taken, shown-text}
+use Rattle.desk_opening.specs.Folders.{Filed, filedAt, registerFiled, isRequest}
+use Rattle.desk_core.specs.Output.{askedBy, askedAt, lineText, linesText, ending, served, checkedThen, filedThen, firstThen, output}
+use Rattle.desk_opening.specs.Opened.{Opened, opened, openedOn, openedWith, closedWith, firstOn, openingOf}
+use Rattle.desk_core.specs.Step.{Stepped, stepped}
 use Rattle.desk_core.specs.Joined.{stepsBy, run, Joined}
 use Rattle.desk_lines.proofs.Onward.{Ahead, line-ahead}
-use Rattle.desk_core.proofs.Fits.{opening-fits, step-fits}
+use Rattle.desk_opening.proofs.Fits.{opening-fits}
+use Rattle.desk_core.proofs.Fits.{step-fits}
 
 -- A run from an opening on.
 abbrev runOf : List ℕ → Opened → List ℕ

@@ -1,6 +1,3 @@
-pub mod Filed
-pub mod Arms
-pub mod Opened
 pub mod Stepped
 pub mod Small
 pub mod Fits

@@ -14,7 +14,7 @@ use Rattle.log_lists.specs.Rising.{Rising}
 use Rattle.policy.specs.Rules.{rowOf}
 use Rattle.policy.specs.Outcome.{Request, Log, isLogged, requestChecks, wallChecks, wallAnswer, decision, logged, outcome}
 use Rattle.policy.proofs.Outcome.{tooLong, outcome-unlogged, outcome-long}
-use Rattle.desk_print.proofs.Fits.{Small}
+use Rattle.text_lines.proofs.Spaced.{Small}
 
 pub rising-small : (folder least : ℕ) (l : List ℕ) → Rising folder least l → Small l
 rising-small folder least [] r = tt

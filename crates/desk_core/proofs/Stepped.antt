@@ -15,12 +15,13 @@ use Rattle.policy.specs.Session as session
 use Rattle.log_writer.specs.declared.Reply.{Reply}
 use Rattle.response.specs.Response.{responseAnswer}
 use Rattle.log_writer.specs.Reply.{replied}
-use Rattle.desk_print.specs.declared.Text.{Text}
-use Rattle.desk_print.specs.Text.{textOf}
+use Rattle.text_lines.specs.declared.Text.{Text}
+use Rattle.text_lines.specs.Text.{textOf}
 use Rattle.desk_answers.specs.Recorded.{answerText}
 use Rattle.desk_answers.proofs.Answered.{logged-text}
 use Rattle.desk_lines.specs.Lines.{Line, loginsLine, folderLine, requestLine, illLine, lineAt}
-use Rattle.desk_core.specs.Output.{lineText, isRequest}
+use Rattle.desk_opening.specs.Folders.{isRequest}
+use Rattle.desk_core.specs.Output.{lineText}
 use Rattle.desk_core.specs.Step.{over, steppedOn, stepped, left, leftBy, tailOf}
 
 -- ---- the line of an answer

@@ -1,4 +1,4 @@
--- The steps print the whole output, and none of them prints more than its buffer holds.
+-- The opening and the steps print the whole output, and none of them prints more than its buffer holds.
 use Prim.Native.Nat.{ℕ, zero, suc, _*_, _≤_, _<_, _^_}
 use mathlib.Core.Path.{_≡_}
 use mathlib.Core.Bool.{cond}
@@ -8,10 +8,11 @@ use Rattle.register.specs.Register.{Register, registerOf}
 use Rattle.policy.specs.Outcome.{Log}
 use Rattle.policy.specs.Session.{newLog}
 use Rattle.log_writer.specs.Reply.{logOf}
-use Rattle.desk_print.specs.Text.{shown}
-use Rattle.desk_core.specs.declared.Opening.{Opening}
+use Rattle.text_lines.specs.Text.{shown}
+use Rattle.desk_opening.specs.declared.Opening.{Opening}
+use Rattle.desk_opening.specs.Opened.{opened, openingOf}
 use Rattle.desk_core.specs.Output.{output}
-use Rattle.desk_core.specs.Step.{opened, openingOf, stepped, Left, leftBy}
+use Rattle.desk_core.specs.Step.{stepped, Left, leftBy}
 
 -- What steps print, one after the other while the run goes on, each with the place, the matrix and the log that the one before left.
 unfoldable pub stepsBy : (fuel : ℕ) → List ℕ → Register → (place : ℕ) → (matrix : List ℕ) → Log → List ℕ

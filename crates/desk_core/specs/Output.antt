@@ -1,50 +1,16 @@
--- What the desk prints for a whole input (document 01, 'The desk program').
+-- What the desk prints for a whole input (document 01, 'The desk program'). The folders that it gives are in `Folders.antt` of `desk_opening`.
 use Prim.Native.Nat.{ℕ, zero, suc, _*_}
-use mathlib.Core.Bool.{Bool, true, false, cond, _||_}
+use mathlib.Core.Bool.{cond, _||_}
 use mathlib.Core.List.{List, [], _∷_, _++_}
 use lib.Dec.{eqb, leb, ltb}
 use lib.ListN.{length, replicate}
-use Rattle.register.specs.Register.{Register, registerOf, folders, registerAnswer}
+use Rattle.register.specs.Register.{Register, folders, registerAnswer}
 use Rattle.policy.specs.Outcome.{Request}
 use Rattle.policy.specs.Session.{AnswerLine, serialLine, dashLine, newLog, session}
 use Rattle.policy.specs.Session as session
 use Rattle.desk_lines.specs.Lines.{Line, loginsLine, folderLine, requestLine, illLine, lineAt, lineNumber}
-use Rattle.desk_print.specs.Text.{inputTooLong, badLine, badRegister, serialText, dashText}
-
--- ---- the folders
-
--- The labels that lines `F class client` give, and the place after the last of these lines.
-pub record Filed : Type 0 where
-  pub classes : List ℕ
-  pub clients : List ℕ
-  pub place : ℕ
-
-abbrev pub filed : List ℕ → List ℕ → ℕ → Filed
-filed classes clients place =
-    record {
-      classes = classes;
-      clients = clients;
-      place = place;
-    }
-
--- A folder's line is put before the folders that follow; any other line ends them.
-abbrev pub filedOn : Line → ℕ → (ℕ → Filed) → Filed
-filedOn (folderLine class client next) place more = filed (class ∷ more next .classes) (client ∷ more next .clients) (more next .place)
-filedOn (loginsLine n next) place more = filed [] [] place
-filedOn (requestLine kind login o next) place more = filed [] [] place
-filedOn illLine place more = filed [] [] place
-
--- The folders from a place on. Fuel that is the text's length is enough, since every line has bytes.
-unfoldable pub filedBy : (fuel : ℕ) → List ℕ → ℕ → Filed
-filedBy zero text place = filed [] [] place
-filedBy (suc fuel) text place = filedOn (lineAt text place) place (filedBy fuel text)
-
-unfoldable pub filedAt : List ℕ → ℕ → Filed
-filedAt text place = filedBy (length text) text place
-
--- The register of n logins and these folders.
-abbrev pub registerFiled : (n : ℕ) → Filed → Register
-registerFiled n f = registerOf n (f .classes) (f .clients)
+use Rattle.desk_opening.specs.Folders.{Filed, filedAt, registerFiled, isRequest}
+use Rattle.desk_print.specs.Lines.{inputTooLong, badLine, badRegister, serialText, dashText}
 
 -- ---- the requests
 
@@ -99,13 +65,6 @@ served r text place =
 -- The register's check: 'its refusal prints `register`, the number and the folders carried, and ends the run'.
 unfoldable pub checkedThen : Register → List ℕ → List ℕ
 checkedThen r rest = cond (eqb (registerAnswer r .number) 0) rest (badRegister (registerAnswer r))
-
--- Whether a line is a request.
-abbrev pub isRequest : Line → Bool
-isRequest (requestLine kind login o next) = true
-isRequest (loginsLine n next) = false
-isRequest (folderLine class client next) = false
-isRequest illLine = false
 
 -- After the folders: 'the register is checked at the first request or at the end', and the requests follow; any other line is ill-formed or
 -- misplaced.

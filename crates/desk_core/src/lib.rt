@@ -1,25 +1,14 @@
-// The desk's text interface over the monitor (document 01, 'The desk program'). The output is printed in steps: `open` takes the input up to
-// its first request, and `step` one line after the other from there.
+// The desk's text interface over the monitor (document 01, 'The desk program'). The output is printed in steps: `desk_opening::open` takes
+// the input up to its first request, and `step` one line after the other from there.
 use desk_lines::Line;
-use desk_print::Text;
 use log_writer::Tail;
+use text_lines::Text;
 ghost use mathlib.Core.Path.{_≡_};
 ghost use Rattle.register.specs.Lent.{lent};
 ghost use Rattle.log_writer.specs.Reply.{logOf};
-ghost use Rattle.desk_core.specs.Step.{opened, openingOf, left, leftBy, stepped};
-
-mod heading; // the lines before the requests
-
-// The input up to its first request, or up to its end: what is printed of it, and, if the run goes on, the register and the place after it.
-pub struct Opening {
-    pub text: Text,
-    pub onward: bool,
-    pub logins: usize,
-    pub folders: usize,
-    pub classes: [u16; 512],
-    pub clients: [u16; 512],
-    pub place: usize,
-}
+ghost use Rattle.text_lines.specs.Text.{textOf};
+ghost use Rattle.desk_core.specs.Output.{ending};
+ghost use Rattle.desk_core.specs.Step.{left, leftBy, stepped};
 
 // What a step prints, whether the run goes on, and the place and the log's tail with which it does.
 pub struct Progress {
@@ -29,14 +18,14 @@ pub struct Progress {
     pub tail: Tail,
 }
 
-// The input up to its first request, or up to its end: its length, `P n`, the folders, the register's check. Prints the refusal, or nothing.
-pub fn open(text: &[u8]) -> Opening
-    ensures { λ r. ⌜ r ≡ openingOf (opened (now (text .entry))) ⌝ }
+// What ends the run at a place: nothing at the text's end, else a line that is ill-formed or misplaced.
+fn ending(text: &[u8], place: usize) -> Text
+    ensures { λ r. ⌜ r ≡ textOf (ending (now (text .entry)) place) ⌝ }
 {
-    if 65_536 < text.len() {
-        return heading::closed(desk_print::input_too_long());
+    if text.len() <= place {
+        return text_lines::nothing();
     }
-    heading::from_first(text)
+    desk_print::bad_line(desk_lines::line_number(text, place))
 }
 
 // The line at a place, after the opening. A request is asked of the monitor and its answer printed; anything else ends the run, with
@@ -66,7 +55,7 @@ pub fn step(
             }
         }
         _ => Progress {
-            text: heading::ending(text, place),
+            text: ending(text, place),
             onward: false,
             place: place,
             tail: tail,

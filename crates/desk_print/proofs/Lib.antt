@@ -1,4 +1,1 @@
-pub mod Decimal
-pub mod Spaced
-pub mod Printed
 pub mod Fits

@@ -1,2 +1,2 @@
--- The rules: the lines of the output, and a text as it is handed back.
-pub mod Text
+-- The rules: the lines of the output.
+pub mod Lines

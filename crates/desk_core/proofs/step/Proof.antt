@@ -4,54 +4,39 @@ use mathlib.Core.Path.{sym, ap, _∙_}
 use Rattle.log_writer.specs.Reply.{logOf}
 use Rattle.register.specs.Register.{registerOf}
 use Rattle.desk_lines.specs.Lines.{lineOf}
-use Rattle.desk_core.proofs.Arms.{no-request}
+use Rattle.desk_opening.proofs.Arms.{no-request}
 use Rattle.desk_core.proofs.Stepped.{stepped-over, stepped-request}
 use native.Mathlib.Omega.{arith}
 use borrow.Author.Needs.{needs}
 use Rattle.desk_core.proofs.step.Statement.{statement}
 use Rattle.desk_core.proofs.step.Tie as tie
-use Rattle.desk_core.proofs.step.Reads as reads
-use Rattle.desk_core.proofs.step.Lts as lts
-use Rattle.desk_answers.proofs.answer_line.Reads as answer-line-reads
-use Rattle.desk_core.proofs.heading.ending.Reads as ending-reads
-use Rattle.desk_lines.proofs.read_line.Reads as read-line-reads
-use Rattle.monitor.proofs.request.Reads as request-reads
 
--- src/lib.rt:56:11
 read-line-requires : tie.Need-read-line-requires
 read-line-requires c κs = search needs
 
--- src/lib.rt:57:25
 enum-known-asked : tie.Need-enum-known-asked
 enum-known-asked c = search needs
 
--- src/lib.rt:58:17
 request-requires : tie.Need-request-requires
 request-requires c κs = search needs
 
--- src/lib.rt:62:23
 answer-line-requires : tie.Need-answer-line-requires
 answer-line-requires c κs = search needs
 
--- src/lib.rt:69:19
 ending-requires : tie.Need-ending-requires
 ending-requires c κs = search needs
 
--- src/lib.rt:44:1
 same-length : tie.Need-same-length
 same-length c = search needs
 
--- src/lib.rt:44:1
 same-length-2 : tie.Need-same-length-2
 same-length-2 c = search needs
 
--- src/lib.rt:44:1
 returns : tie.Need-returns
 returns c =
     let a = c .before .before .before .before .before .before .before .before .before .before .before .before .before .before .before .before .before .before .before .args in
     stepped-request (a .text .now) (registerOf (a .logins) (a .classes .now) (a .clients .now)) (a .place) (a .matrix .now) (logOf (a .log .now) (a .tail)) _ _ _ _ (sym (c .before .before .before .before .before .before .before .before .before .before .before .before .before .read-line .ensures) ∙ ap lineOf (c .before .before .before .before .before .before .before .before .before .before .before .asked .given .1)) (omega (arith, c .before .before .before .before .before .before .before .before .before .before .before .before .before .before .before .before .before .before .before .good .1 .1 .1 .1 .1 .1 .1 .0 .1 .1 .1 .0 .1)) (c .before .before .before .before .before .before .before .request .result) _ _ _ (c .before .before .before .before .before .before .before .request .ensures) (c .answer-line .ensures)
 
--- src/lib.rt:44:1
 returns-2 : tie.Need-returns-2
 returns-2 c =
     let a = c .before .before .before .before .before .before .before .before .args in

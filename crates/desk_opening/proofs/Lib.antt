@@ -1,0 +1,4 @@
+pub mod Filed
+pub mod Arms
+pub mod Opened
+pub mod Fits
