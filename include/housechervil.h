@@ -31,7 +31,11 @@
 #include <stddef.h>
 #include <stdint.h>
 
+/* The version of header, crate and CHANGELOG.md. */
 #define HC_VERSION "0.1.0"
+#define HC_VERSION_MAJOR 0
+#define HC_VERSION_MINOR 1
+#define HC_VERSION_PATCH 0
 
 #define HC_LOGINS_MAX 128   /* the most logins */
 #define HC_FOLDERS_MAX 512  /* the most folders */
