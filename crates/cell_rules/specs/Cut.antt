@@ -1,4 +1,5 @@
--- Internal: the rules cut as the code is cut, on one cell and two labels. No rule of document 01 stands here.
+-- The rules on one cell and two labels (document 01, 'The four kinds of request'), cut as the code is cut. That over a row they are those of `policy` is
+-- proved by `row` and `row_grant`.
 use Prim.Native.Nat.{ℕ}
 use mathlib.Core.Bool.{Bool, not, _&&_, _||_}
 use lib.Dec.{eqb}

@@ -1,3 +1,3 @@
 -- Comments cite document 01 by its sections; docs/RULES.md says it in words, under the same headings.
--- Internal:
+-- The rules on one cell and two labels:
 pub mod Cut

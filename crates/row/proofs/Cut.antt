@@ -18,8 +18,7 @@ use Rattle.policy.specs.Rules.{writes, revokes, rivals, foreigners, stakes, los
 use Rattle.policy.specs.Outcome.{wallChecks, wallAnswer}
 use Rattle.cell_rules.specs.declared.Sort.{Sort}
 use Rattle.cell_rules.specs.declared.Sort.the-variants.{Rival, Foreign, AtStake}
-use Rattle.row_labels.specs.Fitting.{listsFit, fitting}
-use Rattle.row_labels.specs.Cut.{labelAt}
+use Rattle.row_labels.specs.Fitting.{listsFit, fitting, labelAt}
 use Rattle.row_labels.proofs.Fitting.{fits-are}
 use Rattle.row.specs.Row.{rowAnswer, ruled, lostOn}
 use Rattle.row.specs.Cut.{allOf, firstOf}

@@ -6,9 +6,9 @@ use lib.ListN.{length, getD}
 use Rattle.vocabulary.specs.Those.{those}
 use Rattle.ids.specs.declared.Label.{Label}
 use Rattle.policy.specs.Rules.{cell}
+use Rattle.row_labels.specs.Fitting.{labelAt}
 use Rattle.cell_rules.specs.declared.Sort.{Sort}
 use Rattle.cell_rules.specs.Cut.{ofSort}
-use Rattle.row_labels.specs.Cut.{labelAt}
 
 -- The folders of a sort.
 abbrev pub ofSortAt : Sort → List ℕ → List ℕ → List ℕ → Label → ℕ → Bool

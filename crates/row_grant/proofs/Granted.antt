@@ -8,8 +8,7 @@ use Rattle.vocabulary.proofs.Each.{each-agree}
 use Rattle.ids.specs.declared.Label.{Label}
 use Rattle.register.specs.Register.{Register}
 use Rattle.policy.specs.Rules.{cellAfter, rowAfter}
-use Rattle.row_labels.specs.Fitting.{fitting}
-use Rattle.row_labels.specs.Cut.{labelAt}
+use Rattle.row_labels.specs.Fitting.{fitting, labelAt}
 use Rattle.row_grant.specs.Granted.{rowGranted}
 use Rattle.row_grant.specs.Cut.{leftAt}
 

@@ -5,8 +5,8 @@ use mathlib.Core.Path.{_≡_}
 use lib.ListN.{length, set}
 use lib.Dec.{eqb}
 use Rattle.ids.specs.declared.Label.{Label}
+use Rattle.row_labels.specs.Fitting.{labelAt}
 use Rattle.cell_rules.specs.Cut.{cellLeft}
-use Rattle.row_labels.specs.Cut.{labelAt}
 use Rattle.row_grant.specs.Granted.{listedAtStart}
 
 -- What a grant makes of the cell c at a place of the row.

@@ -1,5 +1,6 @@
 -- A grant on a row alone: what is lost, listed in a lent array, and the row that is left (document 01, 'The four kinds of request'). A row may be
--- given with any lists and any folder.
+-- given with any lists and any folder. Rows 7 and 8 are not judged here: a kind other than 1 to 4 enters and takes back nothing; a cell above 3 is read by
+-- its two rights, and left as the cell that shows them.
 use Prim.Native.Nat.{ℕ}
 use mathlib.Core.Bool.{cond}
 use mathlib.Core.List.{List, []}

@@ -2,14 +2,8 @@
 use Prim.Native.Nat.{ℕ}
 use mathlib.Core.List.{List}
 use mathlib.Core.Path.{_≡_}
-use lib.ListN.{length, getD}
-use Rattle.ids.specs.declared.Label.{Label}
-use Rattle.ids.specs.Label.{labelOf}
+use lib.ListN.{length}
 
 -- The two lists are of the row's length: what the walks need of them.
 abbrev pub Alongside : List ℕ → List ℕ → List ℕ → Type 0
 Alongside row classes clients = (length classes ≡ length row) × (length clients ≡ length row)
-
--- The label of the folder at a place of the two lists.
-abbrev pub labelAt : List ℕ → List ℕ → ℕ → Label
-labelAt classes clients f = labelOf (getD classes f 0) (getD clients f 0)

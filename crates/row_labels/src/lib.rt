@@ -7,8 +7,7 @@ use ids::Label;
 ghost use mathlib.Core.Path.{_≡_};
 ghost use lib.ListN.{getD};
 ghost use Rattle.register.specs.Lent.{lentFolders};
-ghost use Rattle.row_labels.specs.Fitting.{listsFit, fitting};
-ghost use Rattle.row_labels.specs.Cut.{labelAt};
+ghost use Rattle.row_labels.specs.Fitting.{listsFit, fitting, labelAt};
 
 // Whether the lists are of the row's length and it has at most 512 folders.
 pub fn lists_fit(row: &[u8], classes: &[u16], clients: &[u16]) -> bool

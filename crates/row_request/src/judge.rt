@@ -1,4 +1,4 @@
-// The decision on a request: rows 8 and 9 of the table, then what the row's crate says.
+// The decision on a request: 1 for a row of over 512 folders, rows 8 and 9 of the table, then what the row's crate says.
 use ids::FolderNo;
 use ids::Request;
 use log_writer::Tail;
