@@ -4,7 +4,7 @@ use mathlib.Core.Path.{_≡_, sym, ap, _∙_}
 use mathlib.Core.List.{List, _++_}
 use lib.ListN.{length, drop}
 use lib.Seq.{slice}
-use Rattle.log_records.specs.Record.{recordBytes}
+use Rattle.log_bytes.specs.Record.{recordBytes}
 use Rattle.log_records.specs.RecordAt.{entry, entryAt}
 use Rattle.log_records.specs.WellFormed.{WellFormed, Standing}
 use Rattle.audit_log.specs.Reader.{stepAt, placeAfter}

@@ -21,7 +21,7 @@ use Rattle.vocabulary.proofs.Order.{lt-or-le}
 use Rattle.vocabulary.proofs.Bools.{neither, eqb-self, true-or-false, cond-same}
 use Rattle.register.specs.Register.{Register, folders, classOf, clientOf, exactlyOne, loneZero, differs, earlier, later, registerChecks, registerAnswer, Accepted}
 use Rattle.log_fields.specs.Rule.{canAnswer, badCount}
-use Rattle.log_records.specs.Record.{Record, recordBytes}
+use Rattle.log_bytes.specs.Record.{Record, recordBytes}
 use Rattle.log_records.specs.WellFormed.{WellFormed}
 use Rattle.policy.specs.Rules.{rowOf, cell, writes, revokes, rival, foreign, atStake, rivals, foreigners, stakes, lost}
 use Rattle.policy.specs.Outcome.{Request, Log, requestChecks, wallChecks, wallAnswer, decision, outcome, logged, isLogged, recordOf}

@@ -11,7 +11,7 @@ use Rattle.vocabulary.specs.Answer.{answer}
 use Rattle.vocabulary.proofs.Bools.{true-or-false, eqb-self}
 use Rattle.serial.specs.Serial.{following}
 use Rattle.register.specs.Register.{Register}
-use Rattle.log_records.specs.Record.{Record, recordBytes}
+use Rattle.log_bytes.specs.Record.{Record, recordBytes}
 use Rattle.log_records.specs.WellFormed.{WellFormed, Standing}
 use Rattle.audit_log.specs.Reader.{inTurn, checkedFrom, checked}
 use Rattle.policy.specs.Outcome.{Request, Log, Outcome, decision, isLogged, recordOf, logged, outcome}

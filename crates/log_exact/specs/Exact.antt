@@ -8,7 +8,7 @@ use lib.ListN.{length, drop}
 use lib.Seq.{slice}
 use Rattle.varint.specs.Bytes.{Bytes}
 use Rattle.register.specs.Register.{Register, Accepted, classOf, clientOf}
-use Rattle.log_records.specs.Record.{Record}
+use Rattle.log_bytes.specs.Record.{Record}
 use Rattle.log_records.specs.RecordAt.{Entry, entry, entryAt}
 use Rattle.audit_log.specs.Reader.{listFrom, stepAt, placeAfter}
 use Rattle.policy.specs.Outcome.{Request, Log, Outcome, isLogged, recordOf, outcome}

@@ -12,7 +12,7 @@ use Rattle.vocabulary.specs.Answer.{Answer, Check, answer, judge}
 use Rattle.vocabulary.specs.Those.{those}
 use Rattle.vocabulary.proofs.Judge.{Passed, judge-append, judge-passed, judge-either, passed-append}
 use Rattle.vocabulary.proofs.Bools.{not-both, true-or-false}
-use Rattle.log_records.specs.Record.{recordBytes}
+use Rattle.log_bytes.specs.Record.{recordBytes}
 use Rattle.register.specs.Register.{Register, registerOf, folders, inRange, registerChecks, registerAnswer}
 use Rattle.register.proofs.Answers.{Ranged, inRange-ranged}
 use Rattle.policy.specs.Rules.{rowOf, withRow, cell, rowAfter, rivals, foreigners, stakes, lost}

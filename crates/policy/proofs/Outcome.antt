@@ -10,7 +10,7 @@ use borrow.Author.Tests.{eqb-true}
 use Rattle.vocabulary.specs.Answer.{Answer, Check, answer, judge}
 use Rattle.vocabulary.proofs.Judge.{Passed, noneSays, judge-silent}
 use Rattle.vocabulary.proofs.Bools.{either, not-both, true-or-false}
-use Rattle.log_records.specs.Record.{recordBytes}
+use Rattle.log_bytes.specs.Record.{recordBytes}
 use Rattle.register.specs.Register.{Register, registerChecks}
 use Rattle.policy.specs.Rules.{rowOf}
 use Rattle.policy.specs.Outcome.{Request, Log, Outcome, requestChecks, wallAnswer, decision, isLogged, recordOf, unchanged, matrixAfter, logged, outcome}

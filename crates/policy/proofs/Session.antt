@@ -7,7 +7,7 @@ use Rattle.register.specs.Register.{registerChecks, earlier, later}
 use Rattle.vocabulary.specs.Answer.{judge}
 use Rattle.vocabulary.specs.Those.{those}
 use Rattle.vocabulary.specs.Each.{each}
-use Rattle.log_records.specs.Record.{recordBytes}
+use Rattle.log_bytes.specs.Record.{recordBytes}
 use Rattle.varint.specs.Groups.{groupsBy, groups, groupsAll}
 
 pub table : Table

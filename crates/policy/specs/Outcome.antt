@@ -8,7 +8,7 @@ use lib.Dec.{leb, ltb, eqb}
 use Rattle.vocabulary.specs.Answer.{Answer, Check, answer, check, judge}
 use Rattle.vocabulary.specs.Those.{those, some, smallest}
 use Rattle.serial.specs.Serial.{following}
-use Rattle.log_records.specs.Record.{Record, recordBytes}
+use Rattle.log_bytes.specs.Record.{Record, recordBytes}
 use Rattle.register.specs.Register.{Register, folders, registerChecks}
 use Rattle.policy.specs.Rules.{rowOf, withRow, cell, writes, rivals, foreigners, stakes, lost, rowAfter}
 
