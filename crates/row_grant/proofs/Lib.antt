@@ -1,4 +1,2 @@
--- For callers:
+-- For callers, and for the proofs of this crate:
 pub mod Granted
--- For the proofs of this crate:
-pub mod Listed

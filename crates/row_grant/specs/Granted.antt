@@ -1,32 +1,12 @@
--- A grant on a row alone: what is lost, listed in a lent array, and the row that is left (document 01, 'The four kinds of request'). A row may be
--- given with any lists and any folder. Rows 7 and 8 are not judged here: a kind other than 1 to 4 enters and takes back nothing; a cell above 3 is read by
--- its two rights, and left as the cell that shows them.
+-- A grant on a row alone: the row that is left (document 01, 'The four kinds of request'). A row may be given with any lists and any folder. Rows 7 and
+-- 8 are not judged here: a kind other than 1 to 4 enters and takes back nothing; a cell above 3 is read by its two rights, and left as the cell that
+-- shows them.
 use Prim.Native.Nat.{ℕ}
 use mathlib.Core.Bool.{cond}
-use mathlib.Core.List.{List, []}
-use lib.ListN.{length, set}
-use lib.Seq.{sets}
-use lib.Dec.{leb}
+use mathlib.Core.List.{List}
 use Rattle.register.specs.Register.{Register}
 use Rattle.policy.specs.Rules.{rowAfter}
 use Rattle.row_labels.specs.Fitting.{fitting}
-use Rattle.row.specs.Row.{lostOn}
-
--- Folders listed in a lent array: how many, and the array, with the folders from its start and a 0 after them, the rest as it was.
-pub record Listed : Type 0 where
-  pub count : ℕ
-  pub list : List ℕ
-
-abbrev pub listedAtStart : List ℕ → List ℕ → Listed
-listedAtStart array l =
-    record {
-      count = length l;
-      list = set (sets array 0 l) (length l) 0;
-    }
-
--- The folders lost, listed in a lent array; none where it has fewer places than the row.
-unfoldable pub lostListed : List ℕ → Register → List ℕ → ℕ → ℕ → Listed
-lostListed array r row o kind = listedAtStart array (cond (leb (length row) (length array)) (lostOn r row o kind) [])
 
 -- The row after a grant; the row as it was where lists or folder do not fit it.
 unfoldable pub rowGranted : Register → List ℕ → ℕ → ℕ → List ℕ

@@ -1,54 +1,30 @@
-// A grant on a login's row: the write rights that it takes back, listed, and the row that it leaves (document 01, 'The four kinds of request'). Rows,
-// lists and folders of any lengths and numbers may be given; whether they fit is asked once, before any walk. Kind and cells are judged by the caller.
+// The row that a grant leaves (document 01, 'The four kinds of request'). Rows, lists and folders of any lengths and numbers may be given; whether they
+// fit is asked once, before the walk. Kind and cells are judged by the caller.
+use ids::ClassNo;
+use ids::ClientNo;
 use ids::FolderNo;
-ghost use Prim.Native.Nat.{_≤_};
+use ids::Label;
 ghost use mathlib.Core.Path.{_≡_};
-ghost use lib.ListN.{length};
+ghost use Rattle.vocabulary.specs.Each.{each};
 ghost use Rattle.register.specs.Lent.{lentFolders};
-ghost use Rattle.row.specs.Row.{lostOn};
-ghost use Rattle.row_grant.specs.Granted.{listedAtStart, lostListed, rowGranted};
+ghost use Rattle.row_labels.specs.Cut.{Alongside};
+ghost use Rattle.row_grant.specs.Granted.{rowGranted};
+ghost use Rattle.row_grant.specs.Cut.{leftAt};
 
-mod walks; // the walks over a row
-
-// Lists the folders that lose their write right on a grant, where the list has a place for each folder of the row.
-fn list_fitting(
-    row: &[u8],
-    classes: &[u16],
-    clients: &[u16],
-    folder: FolderNo,
-    kind: u16,
-    list: &mut [u16],
-) -> usize
-    requires { ⌜ length (now row) ≤ length (now list) ⌝ }
-    ensures { λ r. ⌜ record { count = r; list = now (list .exit) } ≡ listedAtStart (now (list .entry)) (lostOn (lentFolders classes clients) (now (row .entry)) (folder .0) kind) ⌝ }
+// Changes the cells of a row. What the walk has passed is changed, the rest is as it was.
+fn enter(row: &mut [u8], classes: &[u16], clients: &[u16], o: Label, folder: FolderNo, kind: u16)
+    requires { ⌜ Alongside (now row) (now classes) (now clients) ⌝ }
+    ensures { λ r. ⌜ now (row .exit) ≡ each (leftAt (now (classes .entry)) (now (clients .entry)) o (folder .0) kind) (now (row .entry)) ⌝ }
 {
-    if row_labels::fits(row, classes, clients, folder) & cell_rules::revokes(kind) {
-        let o = row_labels::label_of(classes, clients, folder);
-        let count = walks::list_stakes(row, classes, clients, o, list);
-        walks::clear_at(list, count);
-        return count;
+    let mut f = 0;
+    while f < row.len() {
+        let cell = row[f];
+        let class = classes[f];
+        let client = clients[f];
+        let label = ids::labelled(ClassNo(class), ClientNo(client));
+        row[f] = cell_rules::cell_left(cell, label, o, f == folder.0 as usize, kind);
+        f += 1;
     }
-    walks::clear_at(list, 0);
-    0
-}
-
-// Lists the folders that lose their write right on a grant from the start of a list, with a 0 after them, and says how many; none if the
-// list has fewer places than the row.
-pub fn list_lost(
-    row: &[u8],
-    classes: &[u16],
-    clients: &[u16],
-    folder: FolderNo,
-    kind: u16,
-    list: &mut [u16],
-) -> usize
-    ensures { λ r. ⌜ record { count = r; list = now (list .exit) } ≡ lostListed (now (list .entry)) (lentFolders classes clients) (now (row .entry)) (folder .0) kind ⌝ }
-{
-    if list.len() < row.len() {
-        walks::clear_at(list, 0);
-        return 0;
-    }
-    list_fitting(row, classes, clients, folder, kind, list)
 }
 
 // Changes a row as a grant does.
@@ -59,5 +35,5 @@ pub fn grant(row: &mut [u8], classes: &[u16], clients: &[u16], folder: FolderNo,
         return;
     }
     let o = row_labels::label_of(classes, clients, folder);
-    walks::enter(row, classes, clients, o, folder, kind);
+    enter(row, classes, clients, o, folder, kind);
 }

@@ -2,8 +2,8 @@
 use lib.Seq.{set-out}
 use mathlib.Core.Path.{sym}
 use borrow.Author.Needs.{needs}
-use Rattle.row_grant.proofs.walks.clear_at.Statement.{statement}
-use Rattle.row_grant.proofs.walks.clear_at.Tie as tie
+use Rattle.row_lost.proofs.walks.clear_at.Statement.{statement}
+use Rattle.row_lost.proofs.walks.clear_at.Tie as tie
 
 returns : tie.Need-returns
 returns c =

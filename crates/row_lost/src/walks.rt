@@ -1,17 +1,15 @@
-// The walks that list what is lost and change a row.
+// The walk that lists what is lost, and the place after the list.
 use cell_rules::Sort;
 use ids::ClassNo;
 use ids::ClientNo;
-use ids::FolderNo;
 use ids::Label;
 ghost use Prim.Native.Nat.{_≤_};
 ghost use mathlib.Core.Path.{_≡_};
 ghost use mathlib.Core.Bool.{cond};
 ghost use lib.ListN.{length, set};
-ghost use Rattle.vocabulary.specs.Each.{each};
 ghost use Rattle.row_labels.specs.Cut.{Alongside};
 ghost use Rattle.row.specs.Cut.{allOf};
-ghost use Rattle.row_grant.specs.Cut.{ListedSoFar, leftAt};
+ghost use Rattle.row_lost.specs.Cut.{ListedSoFar};
 
 // One for a test that holds.
 fn one_if(b: bool) -> usize
@@ -55,27 +53,4 @@ pub(crate) fn clear_at(list: &mut [u16], n: usize)
         return;
     }
     list[n] = 0;
-}
-
-// Changes a row as a grant does. What the walk has passed is changed, the rest is as it was.
-pub(crate) fn enter(
-    row: &mut [u8],
-    classes: &[u16],
-    clients: &[u16],
-    o: Label,
-    folder: FolderNo,
-    kind: u16,
-)
-    requires { ⌜ Alongside (now row) (now classes) (now clients) ⌝ }
-    ensures { λ r. ⌜ now (row .exit) ≡ each (leftAt (now (classes .entry)) (now (clients .entry)) o (folder .0) kind) (now (row .entry)) ⌝ }
-{
-    let mut f = 0;
-    while f < row.len() {
-        let cell = row[f];
-        let class = classes[f];
-        let client = clients[f];
-        let label = ids::labelled(ClassNo(class), ClientNo(client));
-        row[f] = cell_rules::cell_left(cell, label, o, f == folder.0 as usize, kind);
-        f += 1;
-    }
 }

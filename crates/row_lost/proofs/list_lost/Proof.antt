@@ -1,11 +1,11 @@
 -- `list_lost` meets its contract: a list with too few places gets none.
 use mathlib.Core.Path.{refl}
 use borrow.Author.Tests.{lt-leb, le-leb}
-use Rattle.row_grant.specs.Granted.{lostListed}
-use Rattle.row_grant.proofs.Listed.{listed-cleared, stored-none}
+use Rattle.row_lost.specs.Lost.{lostListed}
+use Rattle.row_lost.proofs.Listed.{listed-cleared, stored-none}
 use borrow.Author.Needs.{needs}
-use Rattle.row_grant.proofs.list_lost.Statement.{statement}
-use Rattle.row_grant.proofs.list_lost.Tie as tie
+use Rattle.row_lost.proofs.list_lost.Statement.{statement}
+use Rattle.row_lost.proofs.list_lost.Tie as tie
 
 clear-at-requires : tie.Need-clear-at-requires
 clear-at-requires c κs = search needs

@@ -10,8 +10,8 @@ use lib.Seq.{sets, set-set}
 use Rattle.vocabulary.specs.Those.{those}
 use Rattle.vocabulary.proofs.Those.{those-take, those-skip}
 use Rattle.vocabulary.proofs.Sets.{sets-append}
-use Rattle.row_grant.specs.Granted.{listedAtStart}
-use Rattle.row_grant.specs.Cut.{ListedSoFar}
+use Rattle.row_lost.specs.Lost.{listedAtStart}
+use Rattle.row_lost.specs.Cut.{ListedSoFar}
 
 -- Once the place after the list is cleared, count and array are those of the list.
 pub listed-cleared : {array l list left m : List ℕ} {n : ℕ} → ListedSoFar array l list n → left ≡ set list n 0 → m ≡ l →

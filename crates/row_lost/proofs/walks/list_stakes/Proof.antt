@@ -5,12 +5,12 @@ use lib.ListN.{length, length-set}
 use Rattle.vocabulary.specs.Those.{those}
 use Rattle.cell_rules.specs.declared.Sort.{Sort}
 use Rattle.row.specs.Cut.{ofSortAt}
-use Rattle.row_grant.specs.Cut.{ListedSoFar}
-use Rattle.row_grant.proofs.Listed.{stored-none, stored-next}
+use Rattle.row_lost.specs.Cut.{ListedSoFar}
+use Rattle.row_lost.proofs.Listed.{stored-none, stored-next}
 use native.Mathlib.Omega.{arith}
 use borrow.Author.Needs.{needs}
-use Rattle.row_grant.proofs.walks.list_stakes.Statement.{statement}
-use Rattle.row_grant.proofs.walks.list_stakes.Tie as tie
+use Rattle.row_lost.proofs.walks.list_stakes.Statement.{statement}
+use Rattle.row_lost.proofs.walks.list_stakes.Tie as tie
 
 abbrev Inv-loop : tie.InvT-loop
 Inv-loop row classes clients o list₀ n₀ f₀ list n f =

@@ -6,8 +6,8 @@ use mathlib.Core.Path.{_≡_, refl, _∙_}
 use Prim.Native.Nat.{_≤_, _-_}
 use native.Mathlib.Omega.{arith}
 use borrow.Author.Needs.{needs}
-use Rattle.row_grant.proofs.walks.enter.Statement.{statement}
-use Rattle.row_grant.proofs.walks.enter.Tie as tie
+use Rattle.row_grant.proofs.enter.Statement.{statement}
+use Rattle.row_grant.proofs.enter.Tie as tie
 
 abbrev Inv-loop : tie.InvT-loop
 Inv-loop row₀ classes clients o folder kind f₀ row f =

@@ -1,10 +1,10 @@
 -- `list_fitting` meets its contract: what is at stake is lost where lists and folder fit and the kind revokes, and nothing elsewhere.
 use Rattle.row_labels.proofs.Fitting.{fits-are}
 use Rattle.row.proofs.Cut.{fits-first, lost-stakes, lost-none}
-use Rattle.row_grant.proofs.Listed.{listed-cleared, stored-none}
+use Rattle.row_lost.proofs.Listed.{listed-cleared, stored-none}
 use borrow.Author.Needs.{needs}
-use Rattle.row_grant.proofs.list_fitting.Statement.{statement}
-use Rattle.row_grant.proofs.list_fitting.Tie as tie
+use Rattle.row_lost.proofs.list_fitting.Statement.{statement}
+use Rattle.row_lost.proofs.list_fitting.Tie as tie
 
 fits-requires : tie.Need-fits-requires
 fits-requires c κs = search needs
