@@ -161,5 +161,5 @@ pub extern "C" fn hc_log_check(log: &[u8]) -> HcPlaced
 pub extern "C" fn hc_number_read(log: &[u8], place: usize) -> HcNumber
     ensures { λ r. ⌜ r ≡ numberOf (reading 2 3 (now (log .entry)) place) ⌝ }
 {
-    told::decoded(varint::read(log, place))
+    told::decoded(varint_read::read(log, place))
 }

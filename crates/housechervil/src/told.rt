@@ -13,7 +13,7 @@ use packing::Packing;
 use packing::Unpacking;
 use register::Verdict;
 use serial::Order;
-use varint::Decoded;
+use varint_read::Decoded;
 ghost use mathlib.Core.Path.{_≡_};
 ghost use Rattle.audit_log.specs.Answers.{checkedAnswer};
 ghost use Rattle.log_fields.specs.Answers.{faultAnswer};
@@ -22,7 +22,7 @@ ghost use Rattle.packing.specs.Answers.{packing, unpacking};
 ghost use Rattle.register.specs.Verdict.{verdictAnswer};
 ghost use Rattle.response.specs.Response.{responseAnswer};
 ghost use Rattle.serial.specs.Number.{number};
-ghost use Rattle.varint.specs.Reading.{decodedAnswer};
+ghost use Rattle.varint_read.specs.Decoded.{decodedAnswer};
 ghost use Rattle.housechervil.specs.Records.{entryItem, logItem, numberOf, placedItem, placedOf, registerRecord, replyOf};
 
 // ---- the register

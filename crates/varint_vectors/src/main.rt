@@ -1,7 +1,7 @@
-// Runs document 01's numbers through `varint`: each one's bytes, readings with their answers (number, then what it
+// Runs document 01's numbers through `varint_write` and `varint_read`: each one's bytes, readings with their answers (number, then what it
 // carries), and how many of the 65,536 numbers come back from their bytes.
-use varint::Decoded;
-use varint::Written;
+use varint_read::Decoded;
+use varint_write::Written;
 
 fn main() {
     show_written(0);
@@ -42,7 +42,7 @@ fn main() {
 fn show_written(n: u16) {
     let mut out = [0u8; 3];
     print(n as u64, b':');
-    let answer = varint::write(&mut out, 0, n);
+    let answer = varint_write::write(&mut out, 0, n);
     let Written::Next(next) = answer else {
         return;
     };
@@ -63,7 +63,7 @@ fn show_bytes(s: &[u8], n: usize) {
 }
 
 fn show_read(s: &[u8], at: usize) {
-    let answer = varint::read(s, at);
+    let answer = varint_read::read(s, at);
     match answer {
         Decoded::Number { value, next } => {
             print(0, b' ');
@@ -82,7 +82,7 @@ fn show_read(s: &[u8], at: usize) {
 }
 
 fn show_room(out: &mut [u8], at: usize, n: u16) {
-    let answer = varint::write(out, at, n);
+    let answer = varint_write::write(out, at, n);
     match answer {
         Written::Next(next) => {
             print(0, b' ');
@@ -107,15 +107,15 @@ fn count_returning() -> u32 {
 
 fn returns(n: u16) -> bool {
     let mut out = [0u8; 3];
-    let written = varint::write(&mut out, 0, n);
+    let written = varint_write::write(&mut out, 0, n);
     let Written::Next(end) = written else {
         return false;
     };
-    let answer = varint::read(&out, 0);
+    let answer = varint_read::read(&out, 0);
     let Decoded::Number { value, next } = answer else {
         return false;
     };
-    (value == n) & (next == end) & (varint::length(n) == end)
+    (value == n) & (next == end) & (varint_write::length(n) == end)
 }
 
 fn print(n: u64, after: u8) {
