@@ -4,7 +4,7 @@ use ids::Label;
 ghost use mathlib.Core.Path.{_≡_};
 ghost use mathlib.Core.Bool.{not};
 ghost use lib.Dec.{eqb};
-ghost use Rattle.policy.specs.Rules.{reads, writes, revokes, cellFor};
+ghost use Rattle.policy.specs.Rules.{cellFor};
 ghost use Rattle.cell_rules.specs.Cut.{ofSort, cellLeft};
 
 // What a walk over a row looks for.
@@ -12,27 +12,6 @@ pub enum Sort {
     Rival,
     Foreign,
     AtStake,
-}
-
-// Whether a kind enters a read right.
-fn reads(kind: u16) -> bool
-    ensures { λ r. ⌜ r ≡ reads kind ⌝ }
-{
-    (kind == 1) | (kind == 2) | (kind == 4)
-}
-
-// Whether a kind enters a write right.
-pub fn writes(kind: u16) -> bool
-    ensures { λ r. ⌜ r ≡ writes kind ⌝ }
-{
-    (kind == 3) | (kind == 4)
-}
-
-// Whether a kind takes back the write rights at stake.
-pub fn revokes(kind: u16) -> bool
-    ensures { λ r. ⌜ r ≡ revokes kind ⌝ }
-{
-    (kind == 1) | (kind == 4)
 }
 
 // Whether two labels have different clients. Classes and clients are compared as what they are, so that neither stands in for the other.
@@ -107,9 +86,9 @@ fn cell_for(read: bool, write: bool) -> u8
 pub fn cell_left(cell: u8, f: Label, o: Label, asked: bool, kind: u16) -> u8
     ensures { λ r. ⌜ r ≡ cellLeft cell f o asked kind ⌝ }
 {
-    let kept = (2 <= cell) & !(revokes(kind) & at_stake(cell, f, o));
+    let kept = (2 <= cell) & !(kinds::revokes(kind) & at_stake(cell, f, o));
     cell_for(
-        (cell % 2 == 1) | (asked & reads(kind)),
-        kept | (asked & writes(kind)),
+        (cell % 2 == 1) | (asked & kinds::reads(kind)),
+        kept | (asked & kinds::writes(kind)),
     )
 }

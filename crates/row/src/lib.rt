@@ -40,7 +40,7 @@ fn judge_wall(row: &[u8], classes: &[u16], clients: &[u16], folder: FolderNo, ki
     if rival < row.len() {
         return Ruling::Rival(walks::folder_no(rival));
     }
-    if cell_rules::writes(kind) {
+    if kinds::writes(kind) {
         let foreign = walks::find(Sort::Foreign, row, classes, clients, o);
         if foreign < row.len() {
             return Ruling::Foreign(walks::folder_no(foreign));
@@ -74,7 +74,7 @@ pub fn decide(row: &[u8], classes: &[u16], clients: &[u16], folder: FolderNo, ki
 pub fn any_lost(row: &[u8], classes: &[u16], clients: &[u16], folder: FolderNo, kind: u16) -> bool
     ensures { λ r. ⌜ r ≡ some (lostOn (lentFolders classes clients) (now (row .entry)) (folder .0) kind) ⌝ }
 {
-    if row_labels::fits(row, classes, clients, folder) & cell_rules::revokes(kind) {
+    if row_labels::fits(row, classes, clients, folder) & kinds::revokes(kind) {
         let o = row_labels::label_of(classes, clients, folder);
         return walks::any(Sort::AtStake, row, classes, clients, o);
     }

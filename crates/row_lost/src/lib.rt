@@ -22,7 +22,7 @@ fn list_fitting(
     requires { ⌜ length (now row) ≤ length (now list) ⌝ }
     ensures { λ r. ⌜ record { count = r; list = now (list .exit) } ≡ listedAtStart (now (list .entry)) (lostOn (lentFolders classes clients) (now (row .entry)) (folder .0) kind) ⌝ }
 {
-    if row_labels::fits(row, classes, clients, folder) & cell_rules::revokes(kind) {
+    if row_labels::fits(row, classes, clients, folder) & kinds::revokes(kind) {
         let o = row_labels::label_of(classes, clients, folder);
         let count = walks::list_stakes(row, classes, clients, o, list);
         walks::clear_at(list, count);
