@@ -1,16 +1,16 @@
 -- `write_cells` meets its contract. The invariant: the cells of the first k bytes are written, the others as they were.
 use lib.ListN.{length-set}
-use Rattle.packing.proofs.Cells.{filled-byte}
+use Rattle.unpacking.proofs.Cells.{filled-again, filled-byte}
 use Prim.Native.Nat.{_≤_, _-_, _+_, _*_}
 use mathlib.Core.Path.{_≡_, refl, ap, _∙_}
 use lib.ListN.{length}
 use Rattle.packing.specs.Cut.{filled}
-use Rattle.packing.specs.Packed.{cellAt, unpacked}
-use Rattle.packing.proofs.Tabulates.{filled-zero, filled-again}
+use Rattle.unpacking.specs.Unpacked.{cellAt, unpacked}
+use Rattle.packing.proofs.Tabulates.{filled-zero}
 use native.Mathlib.Omega.{arith}
 use borrow.Author.Needs.{needs}
-use Rattle.packing.proofs.write_cells.Statement.{statement}
-use Rattle.packing.proofs.write_cells.Tie as tie
+use Rattle.unpacking.proofs.write_cells.Statement.{statement}
+use Rattle.unpacking.proofs.write_cells.Tie as tie
 
 abbrev Inv-loop : tie.InvT-loop
 Inv-loop bytes cells₀ whole k₀ cells k =

@@ -4,7 +4,8 @@ use mathlib.Core.List.{List, []}
 use mathlib.Core.Path.{_≡_}
 use lib.ListN.{length, getD}
 use Rattle.vocabulary.specs.Answer.{answer}
-use Rattle.packing.specs.CopyOutcome.{copyOutcome, packs, unpacks}
+use Rattle.packing.specs.CopyOutcome.{copyOutcome, packs}
+use Rattle.unpacking.specs.Unpacks.{unpacks}
 
 -- What packing accepts, and writes, is unpacked to the same cells.
 abbrev pub UnpackOfPack : Type 0

@@ -9,17 +9,20 @@ use lib.Seq.{ext-getD}
 use native.Mathlib.Nat.{add-zero, zero-div, div-one, div-add-mod', mod-eq-of-lt, suc-ne-zero}
 use native.Mathlib.Decide.{decLt}
 use native.Mathlib.Omega.{arith}
-use borrow.Author.Tests.{eqb-true, not-false}
+use borrow.Author.Tests.{eqb-true, not-false, le-ltb}
 use Rattle.vocabulary.specs.Answer.{answer, check, judge}
-use Rattle.vocabulary.proofs.Those.{some-none}
+use Rattle.vocabulary.proofs.Those.{some-none, those-never}
 use Rattle.packing.specs.Cut.{AllCells}
-use Rattle.packing.specs.Packed.{quarter, byteOf, byteAt, packed, from, cellAt, unpacked, unused}
-use Rattle.packing.specs.CopyOutcome.{packs, unpacks}
-use Rattle.cells.specs.Above.{aboves}
-use Rattle.packing.specs.RoundTrip.{UnpackOfPack, PackOfUnpack}
+use Rattle.packing.specs.Packed.{quarter, byteOf, byteAt, packed}
+use Rattle.packing.specs.CopyOutcome.{packs}
+use Rattle.cells.specs.Above.{above, aboves}
+use Rattle.unpacking.specs.Unpacked.{from, cellAt, unpacked, unused}
+use Rattle.unpacking.specs.Unpacks.{unpacks}
+use Rattle.unpacking.specs.RoundTrip.{UnpackOfPack, PackOfUnpack}
 use Rattle.packing.proofs.Tabulates.{length-tabulate, getD-tabulate}
-use Rattle.packing.proofs.Cells.{cell-at}
-use Rattle.packing.proofs.Outcomes.{all-cells, no-aboves, pack-packed, unpack-unpacked}
+use Rattle.packing.proofs.Outcomes.{all-cells, pack-packed}
+use Rattle.unpacking.proofs.Cells.{cell-at}
+use Rattle.unpacking.proofs.Outcomes.{unpack-unpacked}
 
 -- ---- bytes of cells
 
@@ -110,6 +113,11 @@ byte-whole b h =
     let lower : b / 16 ≡ b / 64 * 4 + b / 16 % 4 = rw (← shr-shr b 4 2) (sym (div-add-mod' (b / 16) 4)) in
     let middle : b / 4 ≡ b / 16 * 4 + b / 4 % 4 = rw (← shr-shr b 2 2) (sym (div-add-mod' (b / 4) 4)) in
     rw (div-one, last) (omega (arith, div-add-mod' b 4))
+
+-- where all are cells, none above 3 is found
+no-aboves : (cells : List ℕ) → AllCells cells → aboves cells ≡ []
+unfolding aboves
+no-aboves cells all = those-never (above cells) (length cells) (λ i h. le-ltb 3 (getD cells i 0) (all i))
 
 module _ (bytes : List ℕ) (n : ℕ) (fits : length bytes ≡ quarter n) (none : unused n bytes ≡ 0) where
   -- the cell at a place, also past the last

@@ -1,8 +1,8 @@
 -- `unpack` meets its contract: each return is one law of the outcome.
-use Rattle.packing.proofs.Outcomes.{unpack-unequal, unpack-unused, unpack-unpacked}
+use Rattle.unpacking.proofs.Outcomes.{unpack-unequal, unpack-unused, unpack-unpacked}
 use borrow.Author.Needs.{needs}
-use Rattle.packing.proofs.unpack.Statement.{statement}
-use Rattle.packing.proofs.unpack.Tie as tie
+use Rattle.unpacking.proofs.unpack.Statement.{statement}
+use Rattle.unpacking.proofs.unpack.Tie as tie
 
 bytes-for-requires : tie.Need-bytes-for-requires
 bytes-for-requires c κs = search needs

@@ -2,12 +2,12 @@
 use Prim.Native.Nat.{_≤_, _-_, _%_}
 use mathlib.Core.Path.{_≡_, refl, ap}
 use lib.ListN.{length}
 use Rattle.packing.specs.Cut.{filled}
-use Rattle.packing.specs.Packed.{cellAt, unpacked}
+use Rattle.unpacking.specs.Unpacked.{cellAt, unpacked}
 use Rattle.packing.proofs.Tabulates.{set-filled, filled-length}
 use borrow.Author.Needs.{needs}
-use Rattle.packing.proofs.write_rest.Statement.{statement}
-use Rattle.packing.proofs.write_rest.Tie as tie
+use Rattle.unpacking.proofs.write_rest.Statement.{statement}
+use Rattle.unpacking.proofs.write_rest.Tie as tie
 
 abbrev Inv-loop : tie.InvT-loop
 Inv-loop bytes cells₀ start i₀ cells i =
