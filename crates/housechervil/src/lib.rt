@@ -6,12 +6,13 @@ use ids::Request;
 use log_writer::Tail;
 ghost use mathlib.Core.Path.{_≡_};
 ghost use Rattle.audit_log.specs.Reader.{checked, stepAt};
-ghost use Rattle.packing.specs.CopyOutcome.{packs, unpacks};
+ghost use Rattle.packing.specs.CopyOutcome.{packs};
 ghost use Rattle.policy.specs.Outcome.{outcome};
 ghost use Rattle.policy.specs.Session.{request};
 ghost use Rattle.register.specs.Lent.{lent};
 ghost use Rattle.register.specs.Register.{registerAnswer};
 ghost use Rattle.serial.specs.Serial.{compared, following};
+ghost use Rattle.unpacking.specs.Unpacks.{unpacks};
 ghost use Rattle.varint.specs.Reading.{reading};
 ghost use Rattle.housechervil.specs.Records.{copied, logAt, logItem, numberOf, placedOf, registerRecord, served, servedBy};
 
@@ -135,7 +136,7 @@ pub extern "C" fn hc_pack(cells: &[u8], packed: &mut [u8]) -> HcPlaced
 pub extern "C" fn hc_unpack(packed: &[u8], cells: &mut [u8]) -> HcPlaced
     ensures { λ r. ⌜ record { told = r; left = now (cells .exit) } ≡ copied (unpacks (now (packed .entry)) (now (cells .entry))) ⌝ }
 {
-    told::unpacking(packing::unpack(packed, cells))
+    told::unpacking(unpacking::unpack(packed, cells))
 }
 
 // A step of the log reader at a place.

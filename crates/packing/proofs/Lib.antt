@@ -1,4 +1,3 @@
 pub mod Tabulates
 pub mod Outcomes
 pub mod Cells
-pub mod RoundTrip

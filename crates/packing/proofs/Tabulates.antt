@@ -34,28 +34,6 @@ module _ (f : ℕ → ℕ) (l : List ℕ) where
   set-filled {out} {k} {n} {v} done at is h =
       rw (done, at, is, add-one, drop-cons l n 0, append-assoc) (set-at (tabulate f n) _ _ (f n) n (length-tabulate f n))
 
-  -- four places more
-  pub set-four : {out : List ℕ} {a b c d : ℕ} (n m : ℕ)
-      → out ≡ filled f n l
-      → a ≡ f n
-      → b ≡ f (n + 1)
-      → c ≡ f (n + 2)
-      → d ≡ f (n + 3)
-      → n + 4 ≤ length l
-      → n + 4 ≡ m
-      → set (set (set (set out n a) (n + 1) b) (n + 2) c) (n + 3) d ≡ filled f m l
-  set-four n m done ia ib ic id h at =
-      let e₁ = set-filled done refl ia (omega arith) in
-      let e₂ = set-filled e₁ refl ib (omega arith) in
-      let e₃ = set-filled e₂ (omega arith) ic (omega arith) in
-      set-filled e₃ (omega arith) id (omega arith) ∙ ap (λ (k : ℕ). filled f k l) (omega arith)
-
-  -- what is filled stays so
-  pub filled-again : {out : List ℕ} {k n : ℕ} → out ≡ filled f k l → k ≡ n → out ≡ filled f n out
-  unfolding filled
-  filled-again {out} {k} {n} done at =
-      rw done (rw (at, drop-at (tabulate f n) (drop n l) n (length-tabulate f n)))
-
   -- every place is filled
   pub filled-length : {out : List ℕ} {k n : ℕ} → out ≡ filled f k l → k ≡ n → length l ≡ n → out ≡ tabulate f n
   unfolding filled

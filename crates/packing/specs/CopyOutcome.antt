@@ -1,4 +1,4 @@
--- What packing and unpacking answer and leave (document 01, 'The matrix').
+-- What packing answers and leaves, in terms that unpacking shares (document 01, 'The matrix').
 use Prim.Native.Nat.{ℕ}
 use mathlib.Core.Bool.{Bool, cond, not}
 use mathlib.Core.List.{List, [], _∷_}
@@ -7,7 +7,7 @@ use lib.ListN.{length}
 use Rattle.vocabulary.specs.Answer.{Answer, answer, check, judge}
 use Rattle.vocabulary.specs.Those.{some, smallest}
 use Rattle.cells.specs.Above.{aboves}
-use Rattle.packing.specs.Packed.{quarter, packed, unpacked, unused}
+use Rattle.packing.specs.Packed.{quarter, packed}
 
 -- The answer, and the lent buffer afterwards.
 pub record CopyOutcome : Type 0 where
@@ -38,13 +38,3 @@ packAnswer cells buffer =
 
 unfoldable pub packs : List ℕ → List ℕ → CopyOutcome
 packs cells buffer = leaves (packAnswer cells buffer) (packed cells) buffer
-
--- Unpacking: '61 .., then 62 for unused bits set'.
-abbrev pub unpackAnswer : List ℕ → List ℕ → Answer
-unpackAnswer bytes buffer =
-    judge
-    (check (unequal (length bytes) (length buffer)) 61 [] ∷ check (not (eqb (unused (length buffer) bytes) 0)) 62 [] ∷ [])
-    (answer 0 [])
-
-unfoldable pub unpacks : List ℕ → List ℕ → CopyOutcome
-unpacks bytes buffer = leaves (unpackAnswer bytes buffer) (unpacked (length buffer) bytes) buffer

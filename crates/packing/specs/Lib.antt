@@ -4,7 +4,5 @@ pub mod Tabulate
 pub mod Packed
 pub mod CopyOutcome
 pub mod Answers
--- Claims:
-pub mod RoundTrip
 -- Internal:
 pub mod Cut

@@ -1,23 +1,16 @@
-// Cells packed four to a byte, and back (document 01, 'The matrix').
+// Cells packed four to a byte (document 01, 'The matrix').
 ghost use mathlib.Core.Path.{_≡_};
 ghost use Prim.Native.Nat.{_+_, _*_, _≤_, _<_};
 ghost use lib.ListN.{length, getD};
-ghost use Rattle.packing.specs.Cut.{AllCells, filled};
-ghost use Rattle.packing.specs.Packed.{quarter, byteOf, byteAt, packed, from, cellAt, unpacked, unused};
-ghost use Rattle.packing.specs.CopyOutcome.{copyOutcome, packs, unpacks};
-ghost use Rattle.packing.specs.Answers.{packing, unpacking};
+ghost use Rattle.packing.specs.Cut.{AllCells};
+ghost use Rattle.packing.specs.Packed.{quarter, byteOf, byteAt, packed};
+ghost use Rattle.packing.specs.CopyOutcome.{copyOutcome, packs};
+ghost use Rattle.packing.specs.Answers.{packing};
 
 // The answers of packing: 0; 60 with the place of the first cell above 3; 61, the lengths don't match.
 pub enum Packing {
     Packed,
     CellAbove(usize),
-    Unequal,
-}
-
-// The answers of unpacking: 0; 62, unused bits of the last byte are set; 61, the lengths don't match.
-pub enum Unpacking {
-    Unpacked,
-    UnusedSet,
     Unequal,
 }
 
@@ -102,66 +95,4 @@ pub fn pack(cells: &[u8], packed: &mut [u8]) -> Packing
     }
     write_bytes(cells, packed);
     Packing::Packed
-}
-
-// What a byte has from its cell j on, j from 0 to 3.
-fn from_cell(byte: u8, j: usize) -> u8
-    requires { ⌜ j < 4 ⌝ }
-    ensures { λ r. ⌜ r ≡ from byte j ⌝ }
-{
-    byte >> (2 * j)
-}
-
-// The unused bits of the last byte of `count` cells; 0 where it has none.
-fn unused_bits(bytes: &[u8], count: usize) -> u8
-    ensures { λ r. ⌜ r ≡ unused count (now (bytes .entry)) ⌝ }
-{
-    from_cell(at_or_0(bytes, count / 4), count % 4)
-}
-
-// Writes the cells from place `start` on, one by one.
-// Invariant: the first i cells are written.
-fn write_rest(bytes: &[u8], cells: &mut [u8], start: usize)
-    requires { ⌜ (length (now bytes) ≡ quarter (length (now cells))) × (start ≤ length (now cells)) × (now cells ≡ filled (cellAt (now bytes)) start (now cells)) ⌝ }
-    ensures { λ r. ⌜ now (cells .exit) ≡ unpacked (length (now (cells .entry))) (now (bytes .entry)) ⌝ }
-{
-    let mut i = start;
-    while i < cells.len() {
-        cells[i] = from_cell(bytes[i / 4], i % 4) % 4;
-        i += 1;
-    }
-}
-
-// Writes the cells: four from each byte, then those of a byte that has fewer.
-// Invariant: the cells of the first k bytes are written.
-fn write_cells(bytes: &[u8], cells: &mut [u8])
-    requires { ⌜ length (now bytes) ≡ quarter (length (now cells)) ⌝ }
-    ensures { λ r. ⌜ now (cells .exit) ≡ unpacked (length (now (cells .entry))) (now (bytes .entry)) ⌝ }
-{
-    let whole = cells.len() / 4;
-    let mut k = 0;
-    while k < whole {
-        let byte = bytes[k];
-        let i = 4 * k;
-        cells[i] = byte % 4;
-        cells[i + 1] = byte / 4 % 4;
-        cells[i + 2] = byte / 16 % 4;
-        cells[i + 3] = byte / 64 % 4;
-        k += 1;
-    }
-    write_rest(bytes, cells, 4 * whole);
-}
-
-// Unpacks `packed` into `cells`; a refusal leaves `cells` as they were.
-pub fn unpack(packed: &[u8], cells: &mut [u8]) -> Unpacking
-    ensures { λ r. ⌜ copyOutcome (unpacking r) (now (cells .exit)) ≡ unpacks (now (packed .entry)) (now (cells .entry)) ⌝ }
-{
-    if bytes_for(cells.len()) != packed.len() {
-        return Unpacking::Unequal;
-    }
-    if unused_bits(packed, cells.len()) != 0 {
-        return Unpacking::UnusedSet;
-    }
-    write_cells(packed, cells);
-    Unpacking::Unpacked
 }

@@ -1,0 +1,7 @@
+-- Comments cite document 01 by its sections; docs/RULES.md says it in words, under the same headings.
+-- The rules:
+pub mod Unpacked
+pub mod Unpacks
+pub mod Answers
+-- Claims:
+pub mod RoundTrip
