@@ -154,7 +154,7 @@ pub extern "C" fn hc_log_step(log: &[u8], place: usize) -> HcLogItem
 pub extern "C" fn hc_log_check(log: &[u8]) -> HcPlaced
     ensures { λ r. ⌜ r ≡ placedOf (checked (now (log .entry))) ⌝ }
 {
-    told::checked(audit_log::check(log))
+    told::checked(log_check::check(log))
 }
 
 // The number at a place: how a caller walks a record's list.
