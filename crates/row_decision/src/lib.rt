@@ -1,4 +1,5 @@
-// The decision on a request: 1 for a row of over 512 folders, rows 8 and 9 of the table, then what the row's crate says.
+// The decision on a request, on the row of the login that asks (document 01, 'Where each refusal is checked'): 1 for a row of over 512 folders,
+// rows 8 and 9 of the table, then what the row's crate says. Any row, lists and folder may be given; the kind is judged by the caller.
 use ids::FolderNo;
 use ids::Request;
 use log_writer::Tail;
@@ -6,15 +7,13 @@ use log_writer::WallRefusal;
 use response::Response;
 use row::Ruling;
 ghost use mathlib.Core.Path.{_≡_};
-ghost use Rattle.vocabulary.specs.Answer.{Answer};
 ghost use Rattle.register.specs.Lent.{lentFolders};
 ghost use Rattle.row.specs.Row.{rulingAnswer, ruled};
 ghost use Rattle.log_writer.specs.Reply.{requestOf};
-ghost use Rattle.row_request.specs.Served.{servedAnswer};
-ghost use Rattle.row_request.specs.Cut.{Decides};
+ghost use Rattle.row_decision.specs.Decision.{judgedBy, judgedAs, servedAnswer};
 
 // What is to be done about a request.
-pub(crate) enum Decision {
+pub enum Decision {
     // 0: to be logged and entered
     Granted,
     // 20, 21 or 22: to be logged
@@ -25,7 +24,7 @@ pub(crate) enum Decision {
 
 // The decision by a ruling.
 fn by_ruling(ruling: Ruling) -> Decision
-    ensures { λ r. ⌜ ((a : Answer) → rulingAnswer ruling ≡ ruled a → Decides r a) ⌝ }
+    ensures { λ r. ⌜ judgedBy r ≡ judgedAs (rulingAnswer ruling) ⌝ }
 {
     match ruling {
         Ruling::Unfit => Decision::Refused(Response::OutOfRange),
@@ -38,7 +37,7 @@ fn by_ruling(ruling: Ruling) -> Decision
 }
 
 // The decision on a request; `size` is the length of the log's buffer. No row has over 512 folders: one that has is not looked at.
-pub(crate) fn judge_row(
+pub fn decide_row(
     row: &[u8],
     classes: &[u16],
     clients: &[u16],
@@ -46,7 +45,7 @@ pub(crate) fn judge_row(
     size: usize,
     tail: Tail,
 ) -> Decision
-    ensures { λ r. ⌜ Decides r (servedAnswer (lentFolders classes clients) (now (row .entry)) (requestOf asked) size (tail .end)) ⌝ }
+    ensures { λ r. ⌜ judgedBy r ≡ judgedAs (ruled (servedAnswer (lentFolders classes clients) (now (row .entry)) (requestOf asked) size (tail .end))) ⌝ }
 {
     if 512 < row.len() {
         return Decision::Refused(Response::OutOfRange);
