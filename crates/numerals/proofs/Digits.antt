@@ -8,14 +8,14 @@ use mathlib.Core.Bool.{Bool, true, false, _&&_, _||_, and-false, and-true, or-tr
 use mathlib.Core.Logic.{⊎-elim}
 use mathlib.Core.List.{List, [], _∷_}
 use lib.Dec.{eqb, leb, ltb}
-use lib.ListN.{length, drop, drop-of-length-le, List·getD-eq-default}
+use lib.ListN.{length, drop, getD, drop-of-length-le, List·getD-eq-default}
 use lib.Seq.{drop-cons}
 use borrow.Author.Tests.{lt-leb, le-leb, leb-true, ne-eqb, eqb-true, ltb-true}
 use Rattle.vocabulary.specs.Parsed.{got}
 use Rattle.vocabulary.proofs.Order.{lt-or-le}
 use Rattle.vocabulary.proofs.Bools.{both, either, true-or-false}
-use Rattle.desk_lines.specs.Lines.{isDigit, digitsOf, valueAfter, illFormed, byteAt, numberAt}
-use Rattle.desk_lines.specs.Reads.{moreDigits}
+use Rattle.numerals.specs.Numbers.{isDigit, digitsOf, valueAfter, illFormed, byteAt, numberAt}
+use Rattle.numerals.specs.Reads.{moreDigits}
 
 not-second : (a b : Bool) → a ≡ true → (a && b) ≡ false → b ≡ false
 not-second a b e f = rw e at f
@@ -34,6 +34,17 @@ module _ (text : List ℕ) (place : ℕ) where
   pub byte-inside : (byteAt text place ≡ 256 → ⊥) → place < length text
   byte-inside h =
       ⊎-elim (λ inside. inside) (λ past. absurd (h (List·getD-eq-default text 256 past))) (lt-or-le place (length text))
+
+  -- Inside the text the default does not matter.
+  pub byte-within : place < length text → getD text place 0 ≡ byteAt text place
+  byte-within h = cc (drop-cons text place 0 h, drop-cons text place 256 h)
+
+  pub byte-past : length text ≤ place → byteAt text place ≡ 256
+  byte-past h = List·getD-eq-default text 256 h
+
+  -- Any byte that stands there stands inside.
+  pub byte-found : {b : ℕ} → b < 256 → eqb (byteAt text place) b ≡ true → place < length text
+  byte-found {b} small e = byte-inside (λ end. omega (arith, eqb-true (byteAt text place) b e))
 
   pub digits-none : isDigit (byteAt text place) ≡ false → digitsOf (drop place text) ≡ []
   unfolding digitsOf

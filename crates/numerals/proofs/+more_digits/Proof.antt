@@ -9,15 +9,15 @@ use borrow.Author.Needs.{needs}
 use borrow.Fn.Kinds.{In}
 use borrow.Fn.PlainCycle.{Measures, is, falls, and}
 use Rattle.vocabulary.proofs.Bools.{neither}
-use Rattle.desk_lines.specs.Lines.{isDigit, byteAt}
-use Rattle.desk_lines.proofs.Digits.{digit-range, digit-inside, more-none, more-ill, more-on}
-use Rattle.desk_lines.proofs.numbers.more_digits.Reads as more-digits
-use Rattle.desk_lines.proofs.numbers.more_digits.Kinds as kinds
-use Rattle.desk_lines.proofs.numbers.+more_digits.Lts-more_digits as lts
-use Rattle.desk_lines.proofs.numbers.byte_at.Reads as byte-at
-use Rattle.desk_lines.proofs.numbers.is_digit.Reads as is-digit
-use Rattle.desk_lines.proofs.numbers.+more_digits.{statement}
-use Rattle.desk_lines.proofs.numbers.+more_digits.Tie.{close}
+use Rattle.numerals.specs.Numbers.{isDigit, byteAt}
+use Rattle.numerals.proofs.Digits.{digit-range, digit-inside, more-none, more-ill, more-on}
+use Rattle.numerals.proofs.more_digits.Reads as more-digits
+use Rattle.numerals.proofs.more_digits.Kinds as kinds
+use Rattle.numerals.proofs.+more_digits.Lts-more_digits as lts
+use Rattle.numerals.proofs.byte_at.Reads as byte-at
+use Rattle.numerals.proofs.is_digit.Reads as is-digit
+use Rattle.numerals.proofs.+more_digits.{statement}
+use Rattle.numerals.proofs.+more_digits.Tie.{close}
 
 abbrev μ : Measures 1 kinds.ps ℕ
 μ κs a = 5 - a .1 .1 .0

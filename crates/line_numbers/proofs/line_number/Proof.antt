@@ -8,10 +8,10 @@ use lib.ListN.{length}
 use borrow.Author.Needs.{needs}
 use borrow.Author.Tests.{ltb-true}
 use Rattle.vocabulary.proofs.Bools.{both}
-use Rattle.desk_lines.specs.Lines.{ended, lineNumber}
-use Rattle.desk_lines.proofs.Ended.{ended-more, ended-stop}
-use Rattle.desk_lines.proofs.line_number.Tie as tie
-use Rattle.desk_lines.proofs.line_number.Statement.{statement}
+use Rattle.line_numbers.specs.LineNumber.{ended, lineNumber}
+use Rattle.line_numbers.proofs.Ended.{ended-more, ended-stop}
+use Rattle.line_numbers.proofs.line_number.Tie as tie
+use Rattle.line_numbers.proofs.line_number.Statement.{statement}
 
 abbrev Inv-loop : tie.InvT-loop
 Inv-loop text place n₀ i₀ n i = (i ≤ place) × ((n ≤ suc i) × (n ≡ lineNumber text i))

@@ -11,7 +11,7 @@ use lib.ListN.{length, take, getD}
 use lib.Seq.{take-all}
 use borrow.Author.Tests.{lt-ltb, ltb-false}
 use Rattle.vocabulary.proofs.Order.{lt-or-le}
-use Rattle.desk_lines.specs.Lines.{ended}
+use Rattle.line_numbers.specs.LineNumber.{ended}
 
 -- One byte more ends one line more, or none.
 pub ended-more : (text : List ℕ) (i : ℕ) → i < length text → ended (take (suc i) text) ≡ ended (take i text) + cond (eqb (getD text i 0) 10) 1 0

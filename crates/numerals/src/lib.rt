@@ -1,18 +1,18 @@
-// A number of a line, read at a place.
+// A number in decimal digits, read at a place of a text (document 01, 'The desk program').
 ghost use Prim.Native.Nat.{_≤_};
 ghost use mathlib.Core.Path.{_≡_};
 ghost use lib.ListN.{drop};
-ghost use Rattle.desk_lines.specs.Lines.{byteAt, isDigit, lastAt, numberAt, partAt};
-ghost use Rattle.desk_lines.specs.Reads.{moreDigits, numeralOf};
+ghost use Rattle.numerals.specs.Numbers.{byteAt, isDigit, numberAt, numeralOf};
+ghost use Rattle.numerals.specs.Reads.{moreDigits};
 
 // A number that was read and the place after it.
-pub(crate) enum Numeral {
+pub enum Numeral {
     Read(u16, usize),
     Ill,
 }
 
 // The byte at a place, or 256 where there is none.
-pub(crate) fn byte_at(text: &[u8], place: usize) -> u16
+fn byte_at(text: &[u8], place: usize) -> u16
     ensures { λ r. ⌜ r ≡ byteAt (now (text .entry)) place ⌝ }
 {
     if place < text.len() {
@@ -43,8 +43,8 @@ fn more_digits(text: &[u8], at: usize, n: usize, value: u32) -> Numeral
     more_digits(text, at + 1, n + 1, longer)
 }
 
-// Reads a number.
-fn read_number(text: &[u8], place: usize) -> Numeral
+// Reads the number at a place.
+pub fn read_number(text: &[u8], place: usize) -> Numeral
     ensures { λ r. ⌜ numeralOf r ≡ numberAt (now (text .entry)) place ⌝ }
 {
     let first = byte_at(text, place);
@@ -55,29 +55,4 @@ fn read_number(text: &[u8], place: usize) -> Numeral
         return Numeral::Ill;
     }
     more_digits(text, place, 0, 0)
-}
-
-// Reads one space and a number.
-pub(crate) fn read_part(text: &[u8], place: usize) -> Numeral
-    ensures { λ r. ⌜ numeralOf r ≡ partAt (now (text .entry)) place ⌝ }
-{
-    if byte_at(text, place) != 32 {
-        return Numeral::Ill;
-    }
-    read_number(text, place + 1)
-}
-
-// Reads one space, a number and the line's end.
-pub(crate) fn read_last(text: &[u8], place: usize) -> Numeral
-    ensures { λ r. ⌜ numeralOf r ≡ lastAt (now (text .entry)) place ⌝ }
-{
-    match read_part(text, place) {
-        Numeral::Ill => Numeral::Ill,
-        Numeral::Read(n, end) => {
-            if byte_at(text, end) != 10 {
-                return Numeral::Ill;
-            }
-            Numeral::Read(n, end + 1)
-        }
-    }
 }

@@ -1,17 +1,11 @@
--- Internal: what the functions that read a number hand back, in the definitions' terms. No rule of document 01 stands here.
+-- Internal: a number's digits as the code reads them. No rule of document 01 stands here.
 use Prim.Native.Nat.{ℕ, _+_}
 use mathlib.Core.Bool.{cond, _&&_}
 use mathlib.Core.List.{List}
 use lib.Dec.{leb}
 use lib.ListN.{length}
 use Rattle.vocabulary.specs.Parsed.{Parsed, got}
-use Rattle.desk_lines.specs.declared.numbers.Numeral.{Numeral}
-use Rattle.desk_lines.specs.declared.numbers.Numeral.the-variants.{Read, Ill}
-use Rattle.desk_lines.specs.Lines.{digitsOf, valueAfter, illFormed}
-
-abbrev pub numeralOf : Numeral → Parsed (ℕ × ℕ)
-numeralOf (Read value next) = got (value, next)
-numeralOf Ill = illFormed
+use Rattle.numerals.specs.Numbers.{digitsOf, valueAfter, illFormed}
 
 -- The rest of a number's digits at a place, after n digits that made `value`.
 unfoldable pub moreDigits : (n value : ℕ) → List ℕ → (place : ℕ) → Parsed (ℕ × ℕ)

@@ -4,10 +4,10 @@ use mathlib.Core.Bool.{true}
 use mathlib.Core.Path.{_≡_, sym, _∙_}
 use borrow.Author.Tests.{not-true, not-false}
 use borrow.Author.Needs.{needs}
-use Rattle.desk_lines.specs.Lines.{isDigit, byteAt}
-use Rattle.desk_lines.proofs.Digits.{digit-inside, number-none, number-zero, number-on}
-use Rattle.desk_lines.proofs.numbers.read_number.Tie as tie
-use Rattle.desk_lines.proofs.numbers.read_number.Statement.{statement}
+use Rattle.numerals.specs.Numbers.{isDigit, byteAt}
+use Rattle.numerals.proofs.Digits.{digit-inside, number-none, number-zero, number-on}
+use Rattle.numerals.proofs.read_number.Tie as tie
+use Rattle.numerals.proofs.read_number.Statement.{statement}
 
 -- past the first test the byte is a digit
 digit : (c : tie.Else1) → isDigit (byteAt (c .before .before .before .before .args .text .now) (c .before .before .before .before .args .place)) ≡ true
