@@ -14,7 +14,8 @@ use Rattle.policy.specs.Session.{answerLine}
 use Rattle.policy.specs.Session as session
 use Rattle.log_exact.proofs.Rising.{rising-less}
 use Rattle.log_exact.proofs.Appended.{logged-well-formed}
-use Rattle.desk_lines.specs.Lines.{Line, loginsLine, folderLine, requestLine, illLine, lineAt, lineNumber}
+use Rattle.desk_lines.specs.Lines.{Line, loginsLine, folderLine, requestLine, illLine, lineAt}
+use Rattle.line_numbers.specs.LineNumber.{lineNumber}
 use Rattle.desk_print.specs.Lines.{badLine}
 use Rattle.desk_print.proofs.Fits.{serial-fits, dash-fits}
 use Rattle.desk_opening.proofs.Fits.{line-number-fits}

@@ -18,7 +18,8 @@ use Rattle.policy.specs.Session as session
 use Rattle.policy.proofs.Accepted.{in-range}
 use Rattle.log_exact.proofs.Appended.{logged-left}
 use Rattle.log_exact.proofs.WriterPasses.{unlogged-left}
-use Rattle.desk_lines.specs.Lines.{Line, loginsLine, folderLine, requestLine, illLine, lineAt, lineNumber}
+use Rattle.desk_lines.specs.Lines.{Line, loginsLine, folderLine, requestLine, illLine, lineAt}
+use Rattle.line_numbers.specs.LineNumber.{lineNumber}
 use Rattle.text_lines.specs.Text.{textOf, shown}
 use Rattle.desk_print.specs.Lines.{inputTooLong, badLine, badRegister}
 use Rattle.text_lines.proofs.Printed.{taken, shown-text}

@@ -8,7 +8,8 @@ use Rattle.register.specs.Register.{Register, folders, registerAnswer}
 use Rattle.policy.specs.Outcome.{Request}
 use Rattle.policy.specs.Session.{AnswerLine, serialLine, dashLine, newLog, session}
 use Rattle.policy.specs.Session as session
-use Rattle.desk_lines.specs.Lines.{Line, loginsLine, folderLine, requestLine, illLine, lineAt, lineNumber}
+use Rattle.desk_lines.specs.Lines.{Line, loginsLine, folderLine, requestLine, illLine, lineAt}
+use Rattle.line_numbers.specs.LineNumber.{lineNumber}
 use Rattle.desk_opening.specs.Folders.{Filed, filedAt, registerFiled, isRequest}
 use Rattle.desk_print.specs.Lines.{inputTooLong, badLine, badRegister, serialText, dashText}
 

@@ -25,7 +25,7 @@ fn ending(text: &[u8], place: usize) -> Text
     if text.len() <= place {
         return text_lines::nothing();
     }
-    desk_print::bad_line(desk_lines::line_number(text, place))
+    desk_print::bad_line(line_numbers::line_number(text, place))
 }
 
 // The line at a place, after the opening. A request is asked of the monitor and its answer printed; anything else ends the run, with

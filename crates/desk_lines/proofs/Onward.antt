@@ -6,10 +6,10 @@ use mathlib.Core.Bool.{Bool, true, false, cond, false≢true}
 use mathlib.Core.List.{List, [], _∷_}
 use lib.Dec.{eqb, ltb}
 use lib.ListN.{length, drop, length-drop}
-use borrow.Author.Tests.{eqb-true}
 use Rattle.vocabulary.specs.Parsed.{Parsed, got, refused, _>>=_}
-use Rattle.desk_lines.specs.Lines.{Line, loginsLine, folderLine, requestLine, illLine, isDigit, digitsOf, valueAfter, isNumber, illFormed, byteAt, numberAt, expected, partAt, lastAt, singleAt, pairAt, orIll, kindOf, lineAt}
-use Rattle.desk_lines.proofs.Digits.{byte-inside}
+use Rattle.numerals.specs.Numbers.{isDigit, digitsOf, valueAfter, isNumber, illFormed, byteAt, numberAt}
+use Rattle.desk_lines.specs.Lines.{Line, loginsLine, folderLine, requestLine, illLine, expected, partAt, lastAt, singleAt, pairAt, orIll, kindOf, lineAt}
+use Rattle.numerals.proofs.Digits.{byte-found}
 
 -- A place after `place` and within the text.
 abbrev pub After : List ℕ → (place next : ℕ) → Type 0
@@ -42,7 +42,7 @@ expected-onward : (b : ℕ) (text : List ℕ) (place : ℕ) → b < 256 → Onwa
 unfolding expected
 expected-onward b text place small =
     either-way (Onward text place) (eqb (byteAt text place) b) (got (b, suc place)) illFormed
-    (λ e. (omega arith, byte-inside text place (λ end. omega (arith, eqb-true (byteAt text place) b e)))) (λ e. tt)
+    (λ e. (omega arith, byte-found text place small e)) (λ e. tt)
 
 -- The digits at a place are some of the bytes there, and a number has one at least.
 digits-within : (text : List ℕ) → length (digitsOf text) ≤ length text

@@ -1,52 +1,14 @@
 -- The lines that the desk reads (document 01, 'The desk program').
-use Prim.Native.Nat.{ℕ, suc, _+_, _-_, _*_}
-use mathlib.Core.Bool.{Bool, cond, not, _&&_, _||_}
-use mathlib.Core.List.{List, [], _∷_}
-use lib.Dec.{eqb, leb, ltb}
-use lib.ListN.{length, getD, drop, take}
-use Rattle.vocabulary.specs.Answer.{answer}
+use Prim.Native.Nat.{ℕ, suc}
+use mathlib.Core.Bool.{cond}
+use mathlib.Core.List.{List}
+use lib.Dec.{eqb, ltb}
 use Rattle.vocabulary.specs.Parsed.{Parsed, got, refused, _>>=_}
+use Rattle.numerals.specs.Numbers.{byteAt, illFormed, numberAt}
 use Rattle.desk_lines.specs.declared.Line as declared
 use Rattle.desk_lines.specs.declared.Line.the-variants.{Logins, Folder, Request, Ill}
 
--- ---- numbers
-
-abbrev pub isDigit : ℕ → Bool
-isDigit b = leb 48 b && leb b 57
-
--- The digits that a text begins with.
-unfoldable pub digitsOf : List ℕ → List ℕ
-digitsOf [] = []
-digitsOf (b ∷ bs) = cond (isDigit b) (b ∷ digitsOf bs) []
-
--- The number that digits make when they follow those of n.
-unfoldable pub valueAfter : ℕ → List ℕ → ℕ
-valueAfter n [] = n
-valueAfter n (b ∷ bs) = valueAfter (n * 10 + (b - 48)) bs
-
--- 'Numbers have one to five digits, no needless leading 0, at most 65,535.'
-abbrev pub isNumber : List ℕ → Bool
-isNumber digits =
-    leb 1 (length digits)
-    && leb (length digits) 5
-    && (eqb (length digits) 1 || not (eqb (getD digits 0 0) 48))
-    && leb (valueAfter 0 digits) 65535
-
--- An ill-formed line's refusal.
-abbrev pub illFormed : {A : Type 0} → Parsed A
-illFormed = refused (answer 40 [])
-
--- The number at a place, and the place after its digits.
-unfoldable pub numberAt : List ℕ → ℕ → Parsed (ℕ × ℕ)
-numberAt text place =
-    let digits : List ℕ = digitsOf (drop place text) in
-    cond (isNumber digits) (got (valueAfter 0 digits, place + length digits)) illFormed
-
 -- ---- the parts of a line
-
--- The byte at a place; 256, which is no byte, past the end.
-abbrev pub byteAt : List ℕ → ℕ → ℕ
-byteAt text place = getD text place 256
 
 -- This byte at a place, and the place after it.
 unfoldable pub expected : ℕ → List ℕ → ℕ → Parsed (ℕ × ℕ)
@@ -113,14 +75,3 @@ lineOf (Logins n next) = loginsLine n next
 lineOf (Folder class client next) = folderLine (class .0) (client .0) next
 lineOf (Request asked next) = requestLine (asked .kind) (asked .login .0) (asked .folder .0) next
 lineOf Ill = illLine
-
--- ---- the number of a line
-
--- How many lines have ended in a text.
-unfoldable pub ended : List ℕ → ℕ
-ended [] = 0
-ended (b ∷ bs) = cond (eqb b 10) (suc (ended bs)) (ended bs)
-
--- The number of the line at a place, counted from 1.
-abbrev pub lineNumber : List ℕ → ℕ → ℕ
-lineNumber text place = suc (ended (take place text))

@@ -1,16 +1,14 @@
-// The lines of the desk's input (document 01, 'The desk program'): the line at a place, and the number under which it is told.
+// The lines of the desk's input (document 01, 'The desk program'): the line at a place.
 use ids::ClassNo;
 use ids::ClientNo;
 use ids::FolderNo;
 use ids::LoginNo;
 use ids::Request;
-use numbers::Numeral;
-ghost use Prim.Native.Nat.{_≤_};
+use numerals::Numeral;
 ghost use mathlib.Core.Path.{_≡_};
-ghost use mathlib.Core.Bool.{cond};
-ghost use Rattle.desk_lines.specs.Lines.{folderLine, kindOf, lineAt, lineNumber, lineOf, loginsLine, orIll, pairAt, requestLine, singleAt};
+ghost use Rattle.desk_lines.specs.Lines.{folderLine, kindOf, lineAt, lineOf, loginsLine, orIll, pairAt, requestLine, singleAt};
 
-mod numbers; // a number of a line, read
+mod parts; // the parts of a line, read
 
 // A line and the place after it.
 pub enum Line {
@@ -28,7 +26,7 @@ pub enum Line {
 }
 
 // The kind that a letter asks for, or 0.
-fn kind_of(letter: u16) -> u16
+fn kind_of(letter: u8) -> u16
     ensures { λ r. ⌜ r ≡ kindOf letter ⌝ }
 {
     match letter {
@@ -44,7 +42,7 @@ fn kind_of(letter: u16) -> u16
 fn read_logins(text: &[u8], place: usize) -> Line
     ensures { λ r. ⌜ lineOf r ≡ orIll (singleAt (now (text .entry)) place loginsLine) ⌝ }
 {
-    match numbers::read_last(text, place) {
+    match parts::read_last(text, place) {
         Numeral::Ill => Line::Ill,
         Numeral::Read(n, next) => Line::Logins(n, next),
     }
@@ -54,9 +52,9 @@ fn read_logins(text: &[u8], place: usize) -> Line
 fn read_folder(text: &[u8], place: usize) -> Line
     ensures { λ r. ⌜ lineOf r ≡ orIll (pairAt (now (text .entry)) place folderLine) ⌝ }
 {
-    match numbers::read_part(text, place) {
+    match parts::read_part(text, place) {
         Numeral::Ill => Line::Ill,
-        Numeral::Read(class, second) => match numbers::read_last(text, second) {
+        Numeral::Read(class, second) => match parts::read_last(text, second) {
             Numeral::Ill => Line::Ill,
             Numeral::Read(client, next) => Line::Folder {
                 class: ClassNo(class),
@@ -71,9 +69,9 @@ fn read_folder(text: &[u8], place: usize) -> Line
 fn read_request(text: &[u8], place: usize, kind: u16) -> Line
     ensures { λ r. ⌜ lineOf r ≡ orIll (pairAt (now (text .entry)) place (requestLine kind)) ⌝ }
 {
-    match numbers::read_part(text, place) {
+    match parts::read_part(text, place) {
         Numeral::Ill => Line::Ill,
-        Numeral::Read(login, second) => match numbers::read_last(text, second) {
+        Numeral::Read(login, second) => match parts::read_last(text, second) {
             Numeral::Ill => Line::Ill,
             Numeral::Read(folder, next) => Line::Request {
                 asked: Request {
@@ -91,10 +89,10 @@ fn read_request(text: &[u8], place: usize, kind: u16) -> Line
 pub fn read_line(text: &[u8], place: usize) -> Line
     ensures { λ r. ⌜ lineOf r ≡ lineAt (now (text .entry)) place ⌝ }
 {
-    let letter = numbers::byte_at(text, place);
-    if letter == 256 {
+    if text.len() <= place {
         return Line::Ill;
     }
+    let letter = text[place];
     if letter == 80 {
         return read_logins(text, place + 1);
     }
@@ -106,23 +104,4 @@ pub fn read_line(text: &[u8], place: usize) -> Line
         return Line::Ill;
     }
     read_request(text, place + 1, kind)
-}
-
-// The number of the line at a place. What the walk has counted are the lines that ended before it, and none ends past the text.
-pub fn line_number(text: &[u8], place: usize) -> usize
-    ensures { λ r. ⌜ r ≡ lineNumber (now (text .entry)) place ⌝ }
-{
-    let mut n: usize = 1;
-    let mut i = 0;
-    while (i < place) & (i < text.len()) {
-        n += one_if(text[i] == 10);
-        i += 1;
-    }
-    n
-}
-
-fn one_if(b: bool) -> usize
-    ensures { λ r. ⌜ (r ≡ cond b 1 0) × (r ≤ 1) ⌝ }
-{
-    if b { 1 } else { 0 }
 }

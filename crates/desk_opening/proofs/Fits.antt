@@ -10,8 +10,9 @@ use lib.ListN.{length, take, length-take}
 use borrow.Author.Tests.{ltb-false}
 use Rattle.vocabulary.proofs.Bools.{true-or-false}
 use Rattle.register.specs.Register.{Register, registerAnswer}
-use Rattle.desk_lines.specs.Lines.{Line, loginsLine, folderLine, requestLine, illLine, lineAt, lineNumber}
-use Rattle.desk_lines.proofs.Ended.{ended-most}
+use Rattle.desk_lines.specs.Lines.{Line, loginsLine, folderLine, requestLine, illLine, lineAt}
+use Rattle.line_numbers.specs.LineNumber.{lineNumber}
+use Rattle.line_numbers.proofs.Ended.{ended-most}
 use Rattle.desk_print.specs.Lines.{badLine}
 use Rattle.desk_print.proofs.Fits.{input-too-long-fits, bad-line-fits, bad-register-fits}
 use Rattle.desk_opening.specs.Folders.{Filed, filedAt, registerFiled, isRequest}

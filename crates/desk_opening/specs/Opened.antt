@@ -7,7 +7,8 @@ use lib.Dec.{eqb, leb, ltb}
 use lib.ListN.{length, replicate}
 use lib.Seq.{sets}
 use Rattle.register.specs.Register.{Register, registerOf, registerAnswer}
-use Rattle.desk_lines.specs.Lines.{Line, loginsLine, folderLine, requestLine, illLine, lineAt, lineNumber}
+use Rattle.desk_lines.specs.Lines.{Line, loginsLine, folderLine, requestLine, illLine, lineAt}
+use Rattle.line_numbers.specs.LineNumber.{lineNumber}
 use Rattle.text_lines.specs.Text.{textOf}
 use Rattle.desk_print.specs.Lines.{inputTooLong, badLine, badRegister}
 use Rattle.desk_opening.specs.declared.Opening.{Opening}

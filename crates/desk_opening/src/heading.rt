@@ -114,7 +114,7 @@ fn from_folders(text: &[u8], logins: u16, place: usize) -> Opening
     if filing_ends(text, end) {
         return checked(logins, filing, classes, clients);
     }
-    closed(desk_print::bad_line(desk_lines::line_number(text, end)))
+    closed(desk_print::bad_line(line_numbers::line_number(text, end)))
 }
 
 // From the first line on.

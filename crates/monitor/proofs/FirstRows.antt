@@ -26,7 +26,8 @@ use Rattle.row_grant.specs.Granted.{rowGranted}
 use Rattle.row_labels.proofs.Fitting.{fits-row}
 use Rattle.row.proofs.Fitting.{rowAnswer-fits}
 use Rattle.row_grant.proofs.Granted.{rowGranted-fits}
-use Rattle.row_request.specs.Served.{rowChecks, servedAnswer, servedOutcome}
+use Rattle.row_decision.specs.Decision.{rowChecks, servedAnswer}
+use Rattle.row_request.specs.Served.{servedOutcome}
 use Rattle.monitor.specs.Front.{passed, frontChecks, fourToSeven, oneToSeven}
 
 pub product-fits : {p f : ℕ} → p ≤ 128 → f ≤ 512 → p * f ≤ 65536

@@ -1,4 +1,3 @@
-pub mod Decided
 pub mod Served
 pub mod Lost
 pub mod Entered

@@ -1,24 +1,38 @@
 -- What each decision leaves.
 use Prim.Native.Nat.{ℕ}
-use mathlib.Core.Path.{_≡_, refl, _∙_}
+use mathlib.Core.Path.{_≡_, refl, sym, ap, _∙_}
+use mathlib.Core.Logic.{_⊎_, inl, inr}
 use mathlib.Core.Bool.{true, false, not}
 use mathlib.Core.List.{List, [], _∷_}
 use lib.ListN.{length}
 use lib.Dec.{eqb, leb, ltb}
 use borrow.Author.Tests.{leb-false, lt-ltb, not-false}
 use Rattle.vocabulary.specs.Answer.{Answer, answer, check}
-use Rattle.vocabulary.proofs.Bools.{neither}
+use Rattle.vocabulary.proofs.Bools.{true-or-false, not-both, neither}
 use Rattle.vocabulary.proofs.Judge.{judge-silent}
 use Rattle.register.specs.Register.{Register}
+use Rattle.response.specs.declared.Response.{Response}
+use Rattle.response.specs.Response.{responseAnswer}
 use Rattle.policy.specs.Rules.{lost}
 use Rattle.policy.specs.Outcome.{Request, Log, wallChecks, wallAnswer, byWall, isLogged, unchanged}
 use Rattle.row_labels.specs.Fitting.{listsFit, fitting}
-use Rattle.row.specs.Row.{rowAnswer, lostOn}
+use Rattle.row.specs.Row.{rowAnswer, ruled, lostOn}
+use Rattle.row.proofs.Fitting.{ruled-number}
 use Rattle.log_writer.specs.declared.WallRefusal.{WallRefusal}
 use Rattle.log_writer.specs.declared.WallRefusal.the-variants.{Rival, Foreign, AtStake}
 use Rattle.log_writer.specs.Logged.{refusalAnswer, loggedOutcome}
-use Rattle.row_request.specs.Served.{rowChecks, servedAnswer, servedOutcome}
+use Rattle.row_decision.specs.declared.Decision.the-variants.{Granted, Barred, Refused}
+use Rattle.row_decision.specs.Decision.{Judged, judgedBy, judgedAs, rowChecks, servedAnswer}
+use Rattle.row_request.specs.Served.{servedOutcome}
 use Rattle.row_request.specs.Cut.{grantedOutcome}
+
+-- A decision that is no grant is the whole answer.
+ruled-other : (b a : Answer) → eqb (b .number) 0 ≡ false → b ≡ ruled a → a ≡ b
+ruled-other b a n e = by (true-or-false (eqb (a .number) 0))
+  where
+    by : (eqb (a .number) 0 ≡ true) ⊎ (eqb (a .number) 0 ≡ false) → a ≡ b
+    by (inl g) = not-both (rw (e, g)) n
+    by (inr g) = sym (rw g at e)
 
 -- A grant on a row carries the folders that lose a write right.
 row-granted : (r : Register) (row : List ℕ) (o kind : ℕ) → rowAnswer r row o kind .number ≡ 0 → rowAnswer r row o kind ≡ answer 0 (lostOn r row o kind)
@@ -40,16 +54,21 @@ module _ (r : Register) (row : List ℕ) (q : Request) (log : Log) where
       let e = judge-silent (rowChecks row (length (log .bytes)) (log .end)) (rowAnswer r row (q .folder) (q .kind)) 0 refl n .1 in
       e ∙ row-granted r row (q .folder) (q .kind) (rw e at n)
 
-  pub served-granted : said .number ≡ 0 → grantedOutcome r row q log ≡ servedOutcome r row q log
+  pub served-granted : judgedBy Granted ≡ judgedAs (ruled said) → grantedOutcome r row q log ≡ servedOutcome r row q log
   unfolding servedOutcome grantedOutcome
-  served-granted n = rw (said-granted n)
+  served-granted d = rw (said-granted (sym (ap (λ (j : Judged). j .answer .number) d ∙ ruled-number said)))
 
-  pub served-barred : (w : WallRefusal) → said ≡ refusalAnswer w → loggedOutcome row q log (refusalAnswer w) ≡ servedOutcome r row q log
+  pub served-barred : (w : WallRefusal) → judgedBy (Barred w) ≡ judgedAs (ruled said) →
+      loggedOutcome row q log (refusalAnswer w) ≡ servedOutcome r row q log
   unfolding servedOutcome loggedOutcome
-  served-barred (Rival f) e = rw e
-  served-barred (Foreign f) e = rw e
-  served-barred (AtStake f) e = rw e
+  served-barred (Rival f) d = rw (ruled-other (refusalAnswer (Rival f)) said refl (ap (λ (j : Judged). j .answer) d))
+  served-barred (Foreign f) d = rw (ruled-other (refusalAnswer (Foreign f)) said refl (ap (λ (j : Judged). j .answer) d))
+  served-barred (AtStake f) d = rw (ruled-other (refusalAnswer (AtStake f)) said refl (ap (λ (j : Judged). j .answer) d))
 
-  pub served-refused : (a : Answer) → said ≡ a → isLogged said ≡ false → unchanged a row log ≡ servedOutcome r row q log
+  pub served-refused : (p : Response) → judgedBy (Refused p) ≡ judgedAs (ruled said) → unchanged (responseAnswer p) row log ≡ servedOutcome r row q log
   unfolding servedOutcome
-  served-refused a e n = let u = rw e at n in rw (e, u, neither (eqb (a .number) 0) (byWall a) u .0)
+  served-refused p d =
+      let e : responseAnswer p ≡ ruled said = ap (λ (j : Judged). j .answer) d in
+      let u : isLogged (responseAnswer p) ≡ false = rw e (sym (ap (λ (j : Judged). j .logged) d)) in
+      let n : eqb (responseAnswer p .number) 0 ≡ false = neither (eqb (responseAnswer p .number) 0) (byWall (responseAnswer p)) u .0 in
+      rw (ruled-other (responseAnswer p) said n e, u, n)

@@ -1,23 +1,11 @@
--- Internal: a request on a row cut as the code is cut, into its decision and the carrying out of a grant. No rule of document 01 stands here.
+-- Internal: a request on a row cut as the code is cut: the carrying out of a grant. No rule of document 01 stands here.
 use Prim.Native.Nat.{ℕ}
-use mathlib.Core.Path.{_≡_}
-use mathlib.Core.Bool.{false}
 use mathlib.Core.List.{List}
 use Rattle.vocabulary.specs.Answer.{Answer, answer}
 use Rattle.register.specs.Register.{Register}
-use Rattle.response.specs.Response.{responseAnswer}
-use Rattle.policy.specs.Outcome.{Request, Log, Outcome, isLogged, logged, told}
+use Rattle.policy.specs.Outcome.{Request, Log, Outcome, logged, told}
 use Rattle.row.specs.Row.{lostOn}
 use Rattle.row_grant.specs.Granted.{rowGranted}
-use Rattle.log_writer.specs.Logged.{refusalAnswer}
-use Rattle.row_request.specs.declared.judge.Decision.{Decision}
-use Rattle.row_request.specs.declared.judge.Decision.the-variants.{Granted, Barred, Refused}
-
--- The decision that an answer is.
-abbrev pub Decides : Decision → Answer → Type 0
-Decides Granted a = a .number ≡ 0
-Decides (Barred refusal) a = a ≡ refusalAnswer refusal
-Decides (Refused response) a = (a ≡ responseAnswer response) × (isLogged a ≡ false)
 
 -- A grant, with the folders that it lists as lost.
 abbrev pub grantOn : Register → List ℕ → Request → Answer

@@ -1,16 +1,15 @@
 // A request on the row of the login that asks, judged and carried out: the rows of the table from 8 to 30 (document 01, 'Where each refusal is
 // checked'). Any row, lists and folder may be given: what does not fit gets 1 or 6. The kind is judged by the caller.
 use ids::Request;
-use judge::Decision;
 use log_writer::Reply;
 use log_writer::Tail;
+use row_decision::Decision;
 ghost use mathlib.Core.Path.{_≡_};
 ghost use Rattle.register.specs.Lent.{lentFolders};
 ghost use Rattle.log_writer.specs.Reply.{requestOf, lentLog, replied};
 ghost use Rattle.row_request.specs.Served.{servedOutcome};
 
 mod grant; // a grant carried out: the record, then the row
-mod judge; // the decision
 
 // A request on a row, judged and carried out.
 pub fn serve(
@@ -23,7 +22,7 @@ pub fn serve(
 ) -> Reply
     ensures { λ r. ⌜ replied r (now (row .exit)) (now (log .exit)) ≡ servedOutcome (lentFolders classes clients) (now (row .entry)) (requestOf asked) (lentLog log tail) ⌝ }
 {
-    let decision = judge::judge_row(row, classes, clients, asked, log.len(), tail);
+    let decision = row_decision::decide_row(row, classes, clients, asked, log.len(), tail);
     match decision {
         Decision::Granted => grant::grant(row, classes, clients, asked, log, tail),
         Decision::Barred(refusal) => log_writer::log_refusal(log, tail, asked, refusal),

@@ -1,15 +1,14 @@
 -- `serve` meets its contract: each decision is carried out as the rules leave it.
 use mathlib.Core.Path.{_∙_}
 use Rattle.register.specs.Register.{registerOf}
-use Rattle.response.specs.Response.{responseAnswer}
 use Rattle.log_writer.specs.Reply.{requestOf, logOf}
 use Rattle.row_request.proofs.Served.{served-granted, served-barred, served-refused}
 use borrow.Author.Needs.{needs}
 use Rattle.row_request.proofs.serve.Statement.{statement}
 use Rattle.row_request.proofs.serve.Tie as tie
 
-judge-row-requires : tie.Need-judge-row-requires
-judge-row-requires c κs = search needs
+decide-row-requires : tie.Need-decide-row-requires
+decide-row-requires c κs = search needs
 
 enum-told : tie.Need-enum-told
 enum-told c = search needs
@@ -34,7 +33,7 @@ same-length-2 c = search needs
 
 returns : tie.Need-returns
 returns c =
-    c .before .before .before .before .grant .ensures ∙ served-granted _ _ _ _ (rw (c .before .before .before .before .before .before .before .enum-told .given .1) at (c .before .before .before .before .before .before .before .before .before .judge-row .ensures))
+    c .before .before .before .before .grant .ensures ∙ served-granted _ _ _ _ (rw (c .before .before .before .before .before .before .before .enum-told .given .1) at (c .before .before .before .before .before .before .before .before .before .decide-row .ensures))
 
 same-length-3 : tie.Need-same-length-3
 same-length-3 c = search needs
@@ -44,7 +43,7 @@ same-length-4 c = search needs
 
 returns-2 : tie.Need-returns-2
 returns-2 c =
-    c .before .before .log-refusal .ensures (c .before .before .before .before .before .before .before .before .before .before .before .before .before .args .row .now) ∙ served-barred _ _ _ _ (c .before .before .before .before .before .decision .given .0 .0) (rw (c .before .before .before .before .before .decision .given .1) at (c .before .before .before .before .before .before .before .judge-row .ensures))
+    c .before .before .log-refusal .ensures (c .before .before .before .before .before .before .before .before .before .before .before .before .before .args .row .now) ∙ served-barred _ _ _ _ (c .before .before .before .before .before .decision .given .0 .0) (rw (c .before .before .before .before .before .decision .given .1) at (c .before .before .before .before .before .before .before .decide-row .ensures))
 
 same-length-5 : tie.Need-same-length-5
 same-length-5 c = search needs
@@ -52,14 +51,14 @@ same-length-5 c = search needs
 returns-3 : tie.Need-returns-3
 returns-3 c =
     let a = c .before .before .before .before .before .before .before .before .before .args in
-    let d = rw (c .before .decision2 .given .1) at (c .before .before .before .judge-row .ensures) in
-    served-refused (registerOf 0 (a .classes .now) (a .clients .now)) (a .row .now) (requestOf (a .asked)) (logOf (a .log .now) (a .tail)) (responseAnswer (c .before .decision2 .given .0 .0)) (d .0) (d .1)
+    let d = rw (c .before .decision2 .given .1) at (c .before .before .before .decide-row .ensures) in
+    served-refused (registerOf 0 (a .classes .now) (a .clients .now)) (a .row .now) (requestOf (a .asked)) (logOf (a .log .now) (a .tail)) (c .before .decision2 .given .0 .0) d
 
 pub serve-spec : {M : Type 1} → statement M
 serve-spec =
     tie.close
     (tie.spec
-    judge-row-requires
+    decide-row-requires
     enum-told
     grant-requires
     enum-known-decision

@@ -1,0 +1,47 @@
+-- `decide_row` meets its contract: the row's length and rows 8 and 9 of the table speak before the row's crate.
+use mathlib.Core.Path.{_∙_}
+use Rattle.row_decision.proofs.Rows.{judged-long, judged-large, judged-end, judged-row}
+use borrow.Author.Needs.{needs}
+use Rattle.row_decision.proofs.decide_row.Statement.{statement}
+use Rattle.row_decision.proofs.decide_row.Tie as tie
+
+returns : tie.Need-returns
+returns c =
+    judged-long _ _ _ _ _ (c .if1 .taken)
+
+first-above-requires : tie.Need-first-above-requires
+first-above-requires c κs = search needs
+
+cast-t11 : tie.Need-cast-t11
+cast-t11 c = search needs
+
+returns-2 : tie.Need-returns-2
+returns-2 c =
+    judged-large _ _ _ _ _ (c .before .before .if1 .left) _ (c .before .first-above .ensures) (c .if2 .taken)
+
+returns-3 : tie.Need-returns-3
+returns-3 c =
+    judged-end _ _ _ _ _ (c .before .before .before .before .if1 .left) (c .before .before .before .first-above .ensures) (c .before .before .if2 .left) (c .if3 .taken)
+
+decide-requires : tie.Need-decide-requires
+decide-requires c κs = search needs
+
+by-ruling-requires : tie.Need-by-ruling-requires
+by-ruling-requires c κs = search needs
+
+returns-4 : tie.Need-returns-4
+returns-4 c =
+    c .by-ruling .ensures ∙ judged-row _ _ _ _ _ (c .before .before .before .before .before .before .if1 .left) (c .before .before .before .before .before .first-above .ensures) (c .before .before .before .before .if2 .left) (c .before .before .if3 .left) (c .before .decide .ensures)
+
+pub decide-row-spec : {M : Type 1} → statement M
+decide-row-spec =
+    tie.close
+    (tie.spec
+    returns
+    first-above-requires
+    cast-t11
+    returns-2
+    returns-3
+    decide-requires
+    by-ruling-requires
+    returns-4)

@@ -1,0 +1,61 @@
+// The decision on a request, on the row of the login that asks (document 01, 'Where each refusal is checked'): 1 for a row of over 512 folders,
+// rows 8 and 9 of the table, then what the row's crate says. Any row, lists and folder may be given; the kind is judged by the caller.
+use ids::FolderNo;
+use ids::Request;
+use log_writer::Tail;
+use log_writer::WallRefusal;
+use response::Response;
+use row::Ruling;
+ghost use mathlib.Core.Path.{_≡_};
+ghost use Rattle.register.specs.Lent.{lentFolders};
+ghost use Rattle.row.specs.Row.{rulingAnswer, ruled};
+ghost use Rattle.log_writer.specs.Reply.{requestOf};
+ghost use Rattle.row_decision.specs.Decision.{judgedBy, judgedAs, servedAnswer};
+
+// What is to be done about a request.
+pub enum Decision {
+    // 0: to be logged and entered
+    Granted,
+    // 20, 21 or 22: to be logged
+    Barred(WallRefusal),
+    // any other refusal: to be told
+    Refused(Response),
+}
+
+// The decision by a ruling.
+fn by_ruling(ruling: Ruling) -> Decision
+    ensures { λ r. ⌜ judgedBy r ≡ judgedAs (rulingAnswer ruling) ⌝ }
+{
+    match ruling {
+        Ruling::Unfit => Decision::Refused(Response::OutOfRange),
+        Ruling::UnknownFolder => Decision::Refused(Response::UnknownFolder),
+        Ruling::Granted => Decision::Granted,
+        Ruling::Rival(f) => Decision::Barred(WallRefusal::Rival(f)),
+        Ruling::Foreign(f) => Decision::Barred(WallRefusal::Foreign(f)),
+        Ruling::AtStake(f) => Decision::Barred(WallRefusal::AtStake(f)),
+    }
+}
+
+// The decision on a request; `size` is the length of the log's buffer. No row has over 512 folders: one that has is not looked at.
+pub fn decide_row(
+    row: &[u8],
+    classes: &[u16],
+    clients: &[u16],
+    asked: Request,
+    size: usize,
+    tail: Tail,
+) -> Decision
+    ensures { λ r. ⌜ judgedBy r ≡ judgedAs (ruled (servedAnswer (lentFolders classes clients) (now (row .entry)) (requestOf asked) size (tail .end))) ⌝ }
+{
+    if 512 < row.len() {
+        return Decision::Refused(Response::OutOfRange);
+    }
+    let large = cells::first_above(row);
+    if large < row.len() {
+        return Decision::Refused(Response::BadCell(FolderNo(large as u16)));
+    }
+    if size < tail.end {
+        return Decision::Refused(Response::BadEnd);
+    }
+    by_ruling(row::decide(row, classes, clients, asked.folder, asked.kind))
+}
