@@ -7,11 +7,11 @@ use lib.Dec.{eqb}
 use lib.ListN.{length}
 use borrow.Author.Tests.{lt-leb}
 use Rattle.vocabulary.specs.Answer.{answer, judge}
-use Rattle.register.specs.declared.Verdict.{Verdict}
-use Rattle.register.specs.declared.Verdict.the-variants.{Accepted, OutOfRange, LoneZero, TwoClasses}
+use Rattle.register_check.specs.declared.Verdict.{Verdict}
+use Rattle.register_check.specs.declared.Verdict.the-variants.{Accepted, OutOfRange, LoneZero, TwoClasses}
 use Rattle.register.specs.Register.{registerOf, registerChecks, registerAnswer}
-use Rattle.register.specs.Verdict.{verdictAnswer}
-use Rattle.register.proofs.Verdict.{the-type}
+use Rattle.register_check.specs.Verdict.{verdictAnswer}
+use Rattle.register_check.proofs.Verdict.{the-type}
 use types.Run.{OneOf, miss}
 use denote.Enum.Declared.{tagOf}
 

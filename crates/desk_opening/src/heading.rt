@@ -1,7 +1,7 @@
 // The lines before the requests.
 use crate::Opening;
 use desk_lines::Line;
-use register::Verdict;
+use register_check::Verdict;
 use text_lines::Text;
 ghost use mathlib.Core.Path.{_≡_};
 ghost use mathlib.Core.Bool.{_||_};
@@ -78,7 +78,11 @@ fn checked(logins: u16, filing: Filing, classes: [u16; 512], clients: [u16; 512]
     if 512 < folders {
         return closed(desk_print::bad_register(Verdict::OutOfRange));
     }
-    let verdict = register::check(logins as usize, &classes[0..folders], &clients[0..folders]);
+    let verdict = register_check::check(
+        logins as usize,
+        &classes[0..folders],
+        &clients[0..folders],
+    );
     match verdict {
         Verdict::Accepted => Opening {
             text: text_lines::nothing(),

@@ -1,9 +1,9 @@
 // The lines that the desk prints of its input and of what is not logged (document 01, 'The desk program'), each as a text of its own.
-use register::Verdict;
+use register_check::Verdict;
 use text_lines::Text;
 use text_lines::line;
 ghost use mathlib.Core.Path.{_≡_};
-ghost use Rattle.register.specs.Verdict.{verdictAnswer};
+ghost use Rattle.register_check.specs.Verdict.{verdictAnswer};
 ghost use Rattle.text_lines.specs.Text.{textOf};
 ghost use Rattle.desk_print.specs.Lines.{badLine, badRegister, dashText, inputTooLong};
 

@@ -76,7 +76,7 @@ pub extern "C" fn hc_register_check(
 ) -> HcRegisterAnswer
     ensures { λ r. ⌜ r ≡ registerRecord (registerAnswer (lent logins classes clients)) ⌝ }
 {
-    told::verdict(register::check(logins, classes, clients))
+    told::verdict(register_check::check(logins, classes, clients))
 }
 
 // A request. Its login and folder get their own types here.

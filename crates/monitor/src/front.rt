@@ -1,6 +1,6 @@
 // Rows 1 to 7 of the table: register, matrix and request. Where they are passed the response is a grant, with nothing taken back yet.
 use ids::Request;
-use register::Verdict;
+use register_check::Verdict;
 use response::Response;
 ghost use Prim.Native.Nat.{_≤_};
 ghost use mathlib.Core.Path.{_≡_};
@@ -42,7 +42,7 @@ pub(crate) fn judge_front(
 ) -> Response
     ensures { λ r. ⌜ responseAnswer r ≡ oneToSeven (lent logins classes clients) size (requestOf asked) ⌝ }
 {
-    let verdict = register::check(logins, classes, clients);
+    let verdict = register_check::check(logins, classes, clients);
     match verdict {
         Verdict::OutOfRange => Response::OutOfRange,
         Verdict::LoneZero(f) => Response::LoneZero(f),

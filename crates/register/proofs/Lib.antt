@@ -1,4 +1,1 @@
 pub mod Answers
-pub mod Chains
-pub mod Marks
-pub mod Later

@@ -1,9 +1,5 @@
 -- Comments cite document 01 by its sections; docs/RULES.md says it in words, under the same headings.
 -- The rules:
 pub mod Register
-pub mod Verdict
 -- The register as it is lent:
 pub mod Lent
--- Internal:
-pub mod Chains
-pub mod Marks

@@ -4,7 +4,7 @@ use native.Mathlib.Omega.{arith}
 use mathlib.Core.Path.{_≡_, sym, ap, _∙_}
 use lib.ListN.{length, replicate}
 use borrow.Author.Needs.{needs}
-use Rattle.register.specs.Verdict.{verdictAnswer}
+use Rattle.register_check.specs.Verdict.{verdictAnswer}
 use Rattle.register.specs.Register.{registerOf, registerAnswer}
 use Rattle.text_lines.proofs.Printed.{part-text}
 use Rattle.desk_opening.specs.Folders.{Filed}

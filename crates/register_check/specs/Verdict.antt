@@ -1,0 +1,11 @@
+-- The register check's answers, by document 01's numbers.
+use mathlib.Core.List.{[], _∷_}
+use Rattle.vocabulary.specs.Answer.{Answer, answer}
+use Rattle.register_check.specs.declared.Verdict.{Verdict}
+use Rattle.register_check.specs.declared.Verdict.the-variants.{Accepted, OutOfRange, LoneZero, TwoClasses}
+
+abbrev pub verdictAnswer : Verdict → Answer
+verdictAnswer Accepted = answer 0 []
+verdictAnswer OutOfRange = answer 1 []
+verdictAnswer (LoneZero f) = answer 2 (f .0 ∷ [])
+verdictAnswer (TwoClasses f g) = answer 3 (f .0 ∷ g .0 ∷ [])

@@ -1,0 +1,4 @@
+pub mod Chains
+pub mod Marks
+pub mod Later
+pub mod Search
