@@ -62,12 +62,16 @@ earlier r f = those (differs r f) f
 unfoldable pub later : Register → List ℕ
 later r = those (λ f. some (earlier r f)) (folders r)
 
+-- The table's row 3: a client has two classes.
+abbrev pub twoClasses : Register → Check
+twoClasses r = check (some (later r)) 3 (smallest (later r) ∷ smallest (earlier r (smallest (later r))) ∷ [])
+
 -- The table's rows for the register. Refusal 2 is sought through the whole register before 3.
 unfoldable pub registerChecks : Register → List Check
 registerChecks r =
     check (not (inRange r)) 1 []
     ∷ check (some (those (loneZero r) (folders r))) 2 (smallest (those (loneZero r) (folders r)) ∷ [])
-    ∷ check (some (later r)) 3 (smallest (later r) ∷ smallest (earlier r (smallest (later r))) ∷ [])
+    ∷ twoClasses r
     ∷ []
 
 -- The register check: 0 is 'accepted'.

@@ -6,7 +6,7 @@ use mathlib.Core.List.{[], _∷_}
 use lib.Dec.{leb, eqb}
 use lib.ListN.{length, getD}
 use borrow.Author.Tests.{leb-true, eqb-true}
-use Rattle.vocabulary.specs.Answer.{answer}
+use Rattle.vocabulary.specs.Answer.{answer, judge}
 use Rattle.vocabulary.specs.Those.{those, some}
 use Rattle.vocabulary.proofs.Bools.{both}
 use Rattle.vocabulary.proofs.Those.{first-some, first-none, first-smallest, smallest-holds}
@@ -25,13 +25,13 @@ searched-sizes r e =
 
 module _ (r : Register) where
   pub unsearched : searched r ≡ false → searchAnswer r ≡ answer 0 []
-  unfolding searchAnswer
+  unfolding searchAnswer judge
   unsearched out = rw out
 
   pub search-found :
       searched r ≡ true → firstLater r < folders r →
       searchAnswer r ≡ answer 3 (firstLater r ∷ getD (earlier r (firstLater r)) 0 (firstLater r) ∷ [])
-  unfolding searchAnswer later earlier
+  unfolding searchAnswer judge later earlier
   search-found fits found =
       rw (fits, first-some _ _ _ found .0, first-some _ _ _ found .1, first-smallest (differs r (firstLater r)) (firstLater r) (firstLater r) (differs-earlier found))
     where
@@ -39,5 +39,5 @@ module _ (r : Register) where
       differs-earlier found = rw (first-some _ _ _ found .1) at (smallest-holds _ _ (first-some _ _ _ found .0) .1)
 
   pub search-none : searched r ≡ true → folders r ≤ firstLater r → searchAnswer r ≡ answer 0 []
-  unfolding searchAnswer later
+  unfolding searchAnswer judge later
   search-none fits never = rw (fits, first-none _ _ never)

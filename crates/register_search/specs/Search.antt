@@ -3,9 +3,8 @@ use mathlib.Core.Bool.{Bool, cond, _&&_}
 use mathlib.Core.List.{[], _∷_}
 use lib.ListN.{length}
 use lib.Dec.{leb, eqb}
-use Rattle.vocabulary.specs.Answer.{Answer, answer}
-use Rattle.vocabulary.specs.Those.{some, smallest}
-use Rattle.register.specs.Register.{Register, folders, earlier, later}
+use Rattle.vocabulary.specs.Answer.{Answer, answer, judge}
+use Rattle.register.specs.Register.{Register, folders, twoClasses}
 use Rattle.register_search.specs.declared.Clash.{Clash}
 use Rattle.register_search.specs.declared.Clash.the-variants.{Never, Between}
 
@@ -13,9 +12,9 @@ use Rattle.register_search.specs.declared.Clash.the-variants.{Never, Bet
 abbrev pub searched : Register → Bool
 searched r = leb (folders r) 512 && eqb (folders r) (length (r .clients))
 
--- 3 with the two folders that it carries; 0 where none is found, or the lists are not searched.
+-- What row 3 says of lists that are searched; 0 of others.
 unfoldable pub searchAnswer : Register → Answer
-searchAnswer r = cond (searched r && some (later r)) (answer 3 (smallest (later r) ∷ smallest (earlier r (smallest (later r))) ∷ [])) (answer 0 [])
+searchAnswer r = judge (cond (searched r) (twoClasses r ∷ []) []) (answer 0 [])
 
 -- The search's answers, by document 01's numbers.
 abbrev pub clashAnswer : Clash → Answer
