@@ -1,0 +1,174 @@
+-- Laws of the lines of a text: what they come to for a walk over it.
+use Prim.Native.Nat.{ℕ, zero, suc, _+_, _-_, _≤_, _<_, min}
+use native.Mathlib.Nat.{zero-min, min-zero, suc-min-suc, min-le-right, add-sub-cancel-left}
+use native.Mathlib.Omega.{arith}
+use mathlib.Core.Path.{_≡_, refl, sym, ap, _∙_}
+use mathlib.Core.Bool.{Bool, true, false, cond}
+use mathlib.Core.Logic.{⊎-elim}
+use mathlib.Core.List.{List, [], _∷_, _++_}
+use lib.Dec.{eqb}
+use lib.ListN.{length, length-drop, drop, take, getD}
+use lib.Seq.{drop-cons, length-take-le}
+use borrow.Author.Tests.{eqb-true, eqb-false, ne-eqb}
+use Rattle.vocabulary.proofs.Bools.{true-or-false}
+use Rattle.vocabulary.specs.Those.{member}
+use Rattle.names.specs.Lines.{ended, lineAt, lineOf, lines, lineStart, longer}
+use Rattle.names.specs.Claims.{joined}
+use Rattle.names.specs.declared.Line.{Line}
+use Rattle.names.specs.Scan.{endFrom, past, upTo}
+use Rattle.names.proofs.Passing.{past-ends, past-nil, past-other, past-zero, upTo-here, upTo-later, upTo-most}
+
+-- The first line, and the others.
+abbrev first : List ℕ → List ℕ
+first text = getD (lines text) 0 []
+
+abbrev others : List ℕ → List (List ℕ)
+others text = drop 1 (lines text)
+
+module _ (b : ℕ) (text : List ℕ) where
+  lines-ends : eqb b 10 ≡ true → lines (b ∷ text) ≡ [] ∷ lines text
+  unfolding lines
+  lines-ends t = rw t
+
+  lines-longer : eqb b 10 ≡ false → lines (b ∷ text) ≡ longer b (lines text)
+  unfolding lines
+  lines-longer f = rw f
+
+-- A text has a first line.
+lines-some : (text : List ℕ) → lines text ≡ first text ∷ others text
+unfolding lines longer
+lines-some [] = refl
+lines-some (b ∷ text) =
+    ⊎-elim (λ t. rw (lines-ends b text t)) (λ f. rw (lines-longer b text f) (longer-some (lines-some text))) (true-or-false (eqb b 10))
+  where
+    longer-some : {ls : List (List ℕ)} → ls ≡ getD ls 0 [] ∷ drop 1 ls → longer b ls ≡ getD (longer b ls) 0 [] ∷ drop 1 (longer b ls)
+    longer-some e = rw e
+
+-- A byte that ends no line is the first of its line.
+lines-other : (b : ℕ) (text : List ℕ) → eqb b 10 ≡ false → lines (b ∷ text) ≡ (b ∷ first text) ∷ others text
+unfolding longer
+lines-other b text f = lines-longer b text f ∙ ap (longer b) (lines-some text)
+
+-- ---- the start of a line
+
+-- What lies before line o: the lines, each with its byte 10.
+before : List ℕ → ℕ → ℕ
+before text o = length (ended (take o (lines text)))
+
+module _ (b : ℕ) (text : List ℕ) (o : ℕ) where
+  before-ends : eqb b 10 ≡ true → before (b ∷ text) (suc o) ≡ suc (before text o)
+  unfolding before ended
+  before-ends t = rw (lines-ends b text t)
+
+  before-other : eqb b 10 ≡ false → before (b ∷ text) (suc o) ≡ suc (before text (suc o))
+  unfolding before ended
+  before-other f = rw (lines-other b text f, lines-some text)
+
+-- The start of a line is where as many bytes 10 are passed.
+pub lineStart-past : (text : List ℕ) (o : ℕ) → lineStart text o ≡ past text o
+unfolding lineStart before ended
+lineStart-past [] o = min-zero _ ∙ sym (past-nil o)
+lineStart-past (b ∷ text) zero = zero-min _ ∙ sym (past-zero (b ∷ text))
+lineStart-past (b ∷ text) (suc o) =
+    ⊎-elim
+    (λ t. ap (λ (n : ℕ). min n (suc (length text))) (before-ends b text o t)
+      ∙ (suc-min-suc _ _ ∙ (ap suc (lineStart-past text o) ∙ sym (past-ends b text o t))))
+    (λ f. ap (λ (n : ℕ). min n (suc (length text))) (before-other b text o f)
+      ∙ (suc-min-suc _ _ ∙ (ap suc (lineStart-past text (suc o)) ∙ sym (past-other b text o f))))
+    (true-or-false (eqb b 10))
+
+-- ---- the line
+
+-- The bytes up to the first byte 10.
+upToFirst : List ℕ → List ℕ
+upToFirst text = take (upTo text) text
+
+module _ (b : ℕ) (text : List ℕ) where
+  upToFirst-here : eqb b 10 ≡ true → upToFirst (b ∷ text) ≡ []
+  unfolding upToFirst
+  upToFirst-here t = rw (upTo-here b text t)
+
+  upToFirst-later : eqb b 10 ≡ false → upToFirst (b ∷ text) ≡ b ∷ upToFirst text
+  unfolding upToFirst
+  upToFirst-later f = rw (upTo-later b text f)
+
+-- A line is what lies between its start and the next byte 10.
+line-nil : (o : ℕ) → lineOf [] o ≡ upToFirst (drop (past [] o) [])
+unfolding lineOf lines past upTo upToFirst
+line-nil zero = refl
+line-nil (suc o) = refl
+
+line-there : (text : List ℕ) (o : ℕ) → lineOf text o ≡ upToFirst (drop (past text o) text)
+unfolding lineOf
+line-there [] o = line-nil o
+line-there (b ∷ text) zero =
+    ⊎-elim
+    (λ t. rw (lines-ends b text t, past-zero (b ∷ text)) (sym (upToFirst-here b text t)))
+    (λ f. rw (lines-other b text f, past-zero (b ∷ text), upToFirst-later b text f)
+      (ap (λ (l : List ℕ). b ∷ l) (rw (past-zero text) at (line-there text 0))))
+    (true-or-false (eqb b 10))
+line-there (b ∷ text) (suc o) =
+    ⊎-elim
+    (λ t. rw (lines-ends b text t, past-ends b text o t) (line-there text o))
+    (λ f. rw (lines-other b text f, past-other b text o f) (rw (lines-some text) at (line-there text (suc o))))
+    (true-or-false (eqb b 10))
+
+module _ (text : List ℕ) (o : ℕ) where
+  pub length-lineOf : length (lineOf text o) ≡ upTo (drop (past text o) text)
+  unfolding upToFirst
+  length-lineOf = rw (line-there text o) (length-take-le _ _ (upTo-most (drop (past text o) text)))
+
+  pub past-most : past text o ≤ length text
+  unfolding lineStart
+  past-most = rw (lineStart-past text o) at (min-le-right (length (ended (take o (lines text)))) (length text))
+
+  -- The line lies inside the text.
+  pub line-fits : lineStart text o + length (lineOf text o) ≤ length text
+  line-fits =
+      rw (lineStart-past text o, length-lineOf)
+      (omega (arith, past-most, upTo-most (drop (past text o) text), length-drop (past text o) text))
+
+  pub lineOf-at : take (length (lineOf text o)) (drop (lineStart text o) text) ≡ lineOf text o
+  unfolding upToFirst
+  lineOf-at = rw (length-lineOf, lineStart-past text o) (sym (line-there text o))
+
+  -- What a walk measures: the start, and from there the end.
+  pub line-measured : {start end : ℕ} → start ≡ past text o → end ≡ endFrom text start
+      → _≡_ {A = Line} (record { place = start; length = end - start }) (lineAt text o)
+  line-measured s e = rw (lineStart-past text o, length-lineOf, e, s, add-sub-cancel-left)
+
+-- No byte 10 is in a line.
+member-upToFirst : (text : List ℕ) → member 10 (upToFirst text) ≡ false
+unfolding member upTo upToFirst
+member-upToFirst [] = refl
+member-upToFirst (b ∷ text) =
+    ⊎-elim (λ t. rw (upToFirst-here b text t))
+    (λ f. rw (upToFirst-later b text f) (rw (ne-eqb 10 b (λ e. eqb-false b 10 f (sym e))) (member-upToFirst text)))
+    (true-or-false (eqb b 10))
+
+pub lineOf-parts : (text : List ℕ) (o : ℕ) → member 10 (lineOf text o) ≡ false
+lineOf-parts text o = rw (line-there text o) (member-upToFirst (drop (past text o) text))
+
+-- Joined by byte 10, the lines are the text.
+joined-longer : (b : ℕ) (line : List ℕ) (rest : List (List ℕ)) → joined ((b ∷ line) ∷ rest) ≡ b ∷ joined (line ∷ rest)
+unfolding joined
+joined-longer b line [] = refl
+joined-longer b line (next ∷ rest) = refl
+
+joined-ends : (text : List ℕ) → joined ([] ∷ lines text) ≡ 10 ∷ joined (lines text)
+unfolding joined
+joined-ends text = rw (lines-some text)
+
+joined-none : joined (lines []) ≡ []
+unfolding joined lines
+joined-none = refl
+
+pub joined-lines : (text : List ℕ) → joined (lines text) ≡ text
+joined-lines [] = joined-none
+joined-lines (b ∷ text) =
+    ⊎-elim
+    (λ t. ap joined (lines-ends b text t)
+      ∙ (joined-ends text ∙ (ap (λ (l : List ℕ). 10 ∷ l) (joined-lines text) ∙ ap (λ (n : ℕ). n ∷ text) (sym (eqb-true b 10 t)))))
+    (λ f. ap joined (lines-other b text f)
+      ∙ (joined-longer b _ _ ∙ ap (λ (l : List ℕ). b ∷ l) (ap joined (sym (lines-some text)) ∙ joined-lines text)))
+    (true-or-false (eqb b 10))

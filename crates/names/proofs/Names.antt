@@ -1,0 +1,103 @@
+-- Laws of the name that is shown: what two lines say, and where it lies.
+use Prim.Native.Nat.{ℕ, zero, suc, _+_, _-_, _≤_}
+use native.Mathlib.Nat.{add-comm, add-sub-cancel-left}
+use native.Mathlib.Omega.{arith}
+use mathlib.Core.Path.{_≡_, refl, sym, ap, _∙_}
+use mathlib.Core.Bool.{Bool, true, false, cond}
+use mathlib.Core.Logic.{⊎-elim}
+use mathlib.Core.List.{List, [], _∷_}
+use lib.Dec.{eqb}
+use lib.ListN.{length, drop, take}
+use Rattle.vocabulary.proofs.Bools.{true-or-false}
+use Rattle.vocabulary.specs.Those.{some}
+use Rattle.vocabulary.proofs.Those.{some-none}
+use Rattle.names.specs.Lines.{lineAt, lineOf, lineStart}
+use Rattle.names.specs.Name.{nameOf, noStretch, shown, stretchOf}
+use Rattle.names.specs.Part.{Part, namePart}
+use Rattle.names.specs.Claims.{StretchHolds}
+use Rattle.names.specs.declared.Line.{Line}
+use Rattle.names.specs.declared.Stretch.{Stretch}
+use Rattle.names.proofs.Lines.{line-fits, lineOf-at}
+
+some-length : (l : List ℕ) → (length l ≡ 0 → ⊥) → some l ≡ true
+some-length [] h = absurd (h refl)
+some-length (x ∷ l) h = refl
+
+none-length : (l : List ℕ) → length l ≡ 0 → some l ≡ false
+none-length [] h = refl
+none-length (x ∷ l) h = absurd (omega (arith, h))
+
+-- The lines as they were found.
+module _ (client house : List ℕ) (o : ℕ) where
+  module _ {own : Line} (e : own ≡ lineAt client o) where
+    pub shown-client : (own .length ≡ 0 → ⊥) → stretchOf 0 own ≡ shown client house o
+    unfolding shown
+    shown-client h = rw (some-length (lineOf client o) (λ z. h (ap (λ (l : Line). l .length) e ∙ z)), e)
+
+    module _ {line : Line} (empty : own .length ≡ 0) (f : line ≡ lineAt house o) where
+      own-none : some (lineOf client o) ≡ false
+      own-none = none-length (lineOf client o) (ap (λ (l : Line). l .length) (sym e) ∙ empty)
+
+      pub shown-house : (line .length ≡ 0 → ⊥) → stretchOf 1 line ≡ shown client house o
+      unfolding shown
+      shown-house h = rw (own-none, some-length (lineOf house o) (λ z. h (ap (λ (l : Line). l .length) f ∙ z)), f)
+
+      pub shown-none : line .length ≡ 0 → noStretch ≡ shown client house o
+      unfolding shown
+      shown-none h = rw (own-none, none-length (lineOf house o) (ap (λ (l : Line). l .length) (sym f) ∙ h))
+
+-- ---- where the name lies
+
+module _ (client house : List ℕ) (o : ℕ) where
+  -- The text that a stretch is of.
+  abbrev pub textOf : Stretch → List ℕ
+  textOf s = cond (eqb (s .text) 0) client house
+
+  -- A stretch and a name: the bytes there are the name, they lie inside the text, and 81 says that there is none.
+  Fit : Stretch → List ℕ → Type 0
+  Fit s name =
+      (take (s .length) (drop (s .place) (textOf s)) ≡ name)
+      × (s .place + s .length ≤ length (textOf s))
+      × (s .number ≡ cond (some name) 0 81)
+
+  -- Whichever of the two lines are empty.
+  fit-by : (t u : Bool) → some (lineOf client o) ≡ t → some (lineOf house o) ≡ u
+      → Fit (cond t (stretchOf 0 (lineAt client o)) (cond u (stretchOf 1 (lineAt house o)) noStretch)) (cond t (lineOf client o) (lineOf house o))
+  unfolding Fit
+  fit-by true u e f = (lineOf-at client o, line-fits client o, rw e)
+  fit-by false true e f = (lineOf-at house o, line-fits house o, rw f)
+  fit-by false false e f = (sym (some-none _ f), omega arith, rw f)
+
+  shown-fit : Fit (shown client house o) (nameOf client house o)
+  unfolding shown nameOf
+  shown-fit = fit-by (some (lineOf client o)) (some (lineOf house o)) refl refl
+
+  pub stretch-holds : StretchHolds client house o
+  unfolding Fit
+  stretch-holds =
+      record {
+        bytes = shown-fit .0;
+        number = shown-fit .2;
+      }
+
+  pub stretch-fits : {s : Stretch} → s ≡ shown client house o → s .place + s .length ≤ length (textOf s)
+  unfolding Fit
+  stretch-fits e = rw e (shown-fit .1)
+
+cond-bytes : (client house : Part) (t : Bool) → (cond t client house) .bytes ≡ cond t (client .bytes) (house .bytes)
+cond-bytes client house true = refl
+cond-bytes client house false = refl
+
+part-equal : {block start start′ : ℕ} {bytes bytes′ : List ℕ} → start ≡ start′ → bytes ≡ bytes′
+    → _≡_ {A = Part} (record { block = block; start = start; bytes = bytes }) (record { block = block; start = start′; bytes = bytes′ })
+part-equal p q = rw (p, q)
+
+-- The part that is cut where a stretch says, if that is the stretch shown.
+pub part-shown : (client house : Part) (o : ℕ) {s : Stretch} → s ≡ shown (client .bytes) (house .bytes) o
+    → _≡_ {A = Part}
+    (let text : Part = cond (eqb (s .text) 0) client house in
+      record { block = text .block; start = s .place + text .start; bytes = take (s .place + s .length - s .place) (drop (s .place) (text .bytes)) })
+    (namePart client house o)
+part-shown client house o e =
+    rw e (part-equal (add-comm _ _)
+      (rw (add-sub-cancel-left, cond-bytes client house _) (stretch-holds (client .bytes) (house .bytes) o .bytes)))

@@ -1,0 +1,206 @@
+-- Laws of passing over a text, byte by byte and in blocks.
+use Prim.Native.Nat.{ℕ, zero, suc, _+_, _-_, _≤_, _<_, min}
+use native.Mathlib.Numerals.{add-one}
+use native.Mathlib.Nat.{zero-add, add-zero, suc-add, sub-zero, sub-add-eq, add-assoc, add-sub-cancel-left, min-eq-left, min-eq-right}
+use native.Mathlib.Omega.{arith}
+use mathlib.Core.Path.{_≡_, refl, sym, ap, _∙_}
+use mathlib.Core.Bool.{Bool, true, false, cond}
+use mathlib.Core.Logic.{_⊎_, inl, inr, ⊎-elim}
+use mathlib.Core.List.{List, [], _∷_, _++_}
+use lib.Dec.{eqb}
+use lib.ListN.{length, drop, take, getD, length-drop, take-append-drop, drop-of-length-le}
+use lib.Seq.{drop-cons, drop-drop, length-take-le}
+use Rattle.vocabulary.proofs.Bools.{true-or-false}
+use Rattle.names.specs.Scan.{breaks, byBreak, endFrom, least, past, pastFrom, upTo}
+
+-- ---- bytes 10
+
+pub byBreak-true : (b ends other : ℕ) → eqb b 10 ≡ true → byBreak b ends other ≡ ends
+unfolding byBreak
+byBreak-true b ends other t = rw t
+
+pub byBreak-false : (b ends other : ℕ) → eqb b 10 ≡ false → byBreak b ends other ≡ other
+unfolding byBreak
+byBreak-false b ends other f = rw f
+
+pub one-most : (b : ℕ) {r : ℕ} → r ≡ byBreak b 1 0 → r ≤ 1
+one-most b e =
+    ⊎-elim (λ t. omega (arith, e, byBreak-true b 1 0 t)) (λ f. omega (arith, e, byBreak-false b 1 0 f)) (true-or-false (eqb b 10))
+
+pub past-nil : (n : ℕ) → past [] n ≡ 0
+unfolding past
+past-nil n = refl
+
+pub past-zero : (text : List ℕ) → past text 0 ≡ 0
+unfolding past
+past-zero [] = refl
+past-zero (b ∷ text) = refl
+
+module _ (b : ℕ) (text : List ℕ) (n : ℕ) where
+  pub past-ends : eqb b 10 ≡ true → past (b ∷ text) (suc n) ≡ suc (past text n)
+  unfolding past
+  past-ends t = ap (λ (m : ℕ). suc (past text m)) (omega (arith, byBreak-true b 1 0 t))
+
+  pub past-other : eqb b 10 ≡ false → past (b ∷ text) (suc n) ≡ suc (past text (suc n))
+  unfolding past
+  past-other f = ap (λ (m : ℕ). suc (past text m)) (omega (arith, byBreak-false b 1 0 f))
+
+-- A part that has fewer bytes 10 than are sought is passed over whole.
+pub past-append : (xs ys : List ℕ) (n : ℕ) → breaks xs < n → past (xs ++ ys) n ≡ length xs + past ys (n - breaks xs)
+unfolding breaks past
+past-append [] ys n h = rw (sub-zero, zero-add)
+past-append (b ∷ xs) ys zero h = absurd (omega (arith, h))
+past-append (b ∷ xs) ys (suc n) h =
+    rw (past-append xs ys (suc n - byBreak b 1 0) (omega (arith, h, one-most b refl)), suc-add, sub-add-eq)
+
+-- ---- the first byte 10
+
+module _ (b : ℕ) (text : List ℕ) where
+  pub upTo-here : eqb b 10 ≡ true → upTo (b ∷ text) ≡ 0
+  unfolding upTo
+  upTo-here t = rw t
+
+  pub upTo-later : eqb b 10 ≡ false → upTo (b ∷ text) ≡ suc (upTo text)
+  unfolding upTo
+  upTo-later f = rw f
+
+pub upTo-most : (text : List ℕ) → upTo text ≤ length text
+unfolding upTo
+upTo-most [] = omega arith
+upTo-most (b ∷ text) =
+    ⊎-elim (λ t. omega (arith, upTo-here b text t)) (λ f. omega (arith, upTo-later b text f, upTo-most text)) (true-or-false (eqb b 10))
+
+-- A part that has one tells it; a part that has none is passed over whole.
+pub upTo-found : (xs ys : List ℕ) → upTo xs < length xs → upTo (xs ++ ys) ≡ upTo xs
+unfolding upTo
+upTo-found [] ys h = absurd (omega (arith, h))
+upTo-found (b ∷ xs) ys h =
+    ⊎-elim (λ t. rw t)
+    (λ f. rw f (ap suc (upTo-found xs ys (omega (arith, h, upTo-later b xs f)))))
+    (true-or-false (eqb b 10))
+
+pub upTo-passed : (xs ys : List ℕ) → length xs ≤ upTo xs → upTo (xs ++ ys) ≡ length xs + upTo ys
+unfolding upTo
+upTo-passed [] ys h = sym (zero-add _)
+upTo-passed (b ∷ xs) ys h =
+    ⊎-elim (λ t. absurd (omega (arith, h, upTo-here b xs t)))
+    (λ f. upTo-later b (xs ++ ys) f ∙ (ap suc (upTo-passed xs ys (omega (arith, h, upTo-later b xs f))) ∙ sym (suc-add _ _)))
+    (true-or-false (eqb b 10))
+
+-- Where n bytes are passed without one, the next is the first, or is passed too.
+pub upTo-at : (text : List ℕ) (n : ℕ) → n < length text → n ≤ upTo text → eqb (getD text n 0) 10 ≡ true → upTo text ≡ n
+upTo-at [] n h k e = absurd (omega (arith, h))
+upTo-at (b ∷ text) zero h k e = upTo-here b text e
+upTo-at (b ∷ text) (suc n) h k e =
+    ⊎-elim (λ t. absurd (omega (arith, k, upTo-here b text t)))
+    (λ f. upTo-later b text f ∙ ap suc (upTo-at text n (omega (arith, h)) (omega (arith, k, upTo-later b text f)) e))
+    (true-or-false (eqb b 10))
+
+pub upTo-on : (text : List ℕ) (n : ℕ) → n < length text → n ≤ upTo text → eqb (getD text n 0) 10 ≡ false → suc n ≤ upTo text
+upTo-on [] n h k e = absurd (omega (arith, h))
+upTo-on (b ∷ text) zero h k e = omega (arith, upTo-later b text e)
+upTo-on (b ∷ text) (suc n) h k e =
+    ⊎-elim (λ t. absurd (omega (arith, k, upTo-here b text t)))
+    (λ f. omega (arith, upTo-later b text f, upTo-on text n (omega (arith, h)) (omega (arith, k, upTo-later b text f)) e))
+    (true-or-false (eqb b 10))
+
+-- ---- the least place of one, in a block of at most 255 bytes
+
+-- What n bytes tell: none is a byte 10, or one is the first.
+abbrev pub Told : List ℕ → ℕ → Type 0
+Told text n = ((least text n ≡ 255) × (n ≤ upTo text)) ⊎ ((least text n ≡ upTo text) × (upTo text < n))
+
+-- One byte more.
+told-suc : (text : List ℕ) (n : ℕ) → n < length text → n < 255 → Told text n → Told text (suc n)
+unfolding least
+told-suc text n h k (inl none) =
+    ⊎-elim
+    (λ t. let first : upTo text ≡ n = upTo-at text n h (none .1) t in
+      inr (rw (none .0, byBreak-true _ n 255 t, first) (min-eq-right (omega (arith, k))), omega (arith, first)))
+    (λ f. inl (rw (none .0, byBreak-false _ n 255 f), upTo-on text n h (none .1) f))
+    (true-or-false (eqb (getD text n 0) 10))
+told-suc text n h k (inr found) =
+    inr (rw (found .0) (min-eq-left (⊎-elim
+      (λ t. omega (arith, byBreak-true (getD text n 0) n 255 t, found .1))
+      (λ f. omega (arith, byBreak-false (getD text n 0) n 255 f, found .1, k))
+      (true-or-false (eqb (getD text n 0) 10)))), omega (arith, found .1))
+
+pub least-told : (text : List ℕ) (n : ℕ) → n ≤ length text → n ≤ 255 → Told text n
+unfolding least
+least-told text zero h k = inl (refl, omega arith)
+least-told text (suc n) h k = told-suc text n h k (least-told text n (omega (arith, h)) (omega (arith, k)))
+
+-- ---- at a place of a text
+
+-- A block of k bytes, as the code cuts it; and the text from there on, which is the block and what follows it.
+abbrev pub block : List ℕ → ℕ → ℕ → List ℕ
+block text at k = take (at + k - at) (drop at text)
+
+block-rest : (text : List ℕ) (at k : ℕ) → block text at k ++ drop (at + k) text ≡ drop at text
+block-rest text at k = rw (add-sub-cancel-left, ← drop-drop) (take-append-drop k (drop at text))
+
+block-length : (text : List ℕ) (at k : ℕ) → at + k ≤ length text → length (block text at k) ≡ k
+block-length text at k h = rw add-sub-cancel-left (length-take-le k (drop at text) (omega (arith, length-drop at text, h)))
+
+module _ (text : List ℕ) (at : ℕ) where
+  -- Counted up to a place: a byte more, and all.
+  pub breaks-step : {r all : ℕ} (n : ℕ) → at < length text → r ≡ byBreak (getD text at 0) 1 0 → n + breaks (drop at text) ≡ all
+      → n + r + breaks (drop (at + 1) text) ≡ all
+  unfolding breaks
+  breaks-step {r} {all} n h e counted =
+      let step : breaks (drop at text) ≡ byBreak (getD text at 0) 1 0 + breaks (drop (at + 1) text) = rw (drop-cons text at 0 h, add-one) in
+      omega (arith, step, e, counted)
+
+  pub breaks-length : {all : ℕ} (n : ℕ) → length text ≤ at → n + breaks (drop at text) ≡ all → n ≡ all
+  unfolding breaks
+  breaks-length n h counted = sym (add-zero n) ∙ rw (drop-of-length-le text h) at counted
+
+  pub past-none : pastFrom text at 0 ≡ at
+  past-none = rw (past-zero, add-zero)
+
+  pub past-length : (n : ℕ) → length text ≤ at → pastFrom text at n ≡ at
+  unfolding past
+  past-length n h = rw (drop-of-length-le text h, add-zero)
+
+  pub past-step : (n : ℕ) → at < length text → (n ≡ 0 → ⊥) → pastFrom text at n ≡ pastFrom text (at + 1) (n - byBreak (getD text at 0) 1 0)
+  unfolding past
+  past-step zero h k = absurd (k refl)
+  past-step (suc n) h k = rw (drop-cons text at 0 h, add-one) (omega arith)
+
+  -- A block that has fewer is passed over whole.
+  pub past-block : {r : ℕ} (k n : ℕ) → at + k ≤ length text → r ≡ breaks (block text at k) → r < n
+      → pastFrom text (at + k) (n - r) ≡ pastFrom text at n
+  past-block k n h e few =
+      let passed = past-append (block text at k) (drop (at + k) text) n (omega (arith, e, few)) in
+      sym (ap (λ (l : List ℕ). at + past l n) (sym (block-rest text at k))
+        ∙ (ap (λ (m : ℕ). at + m) passed ∙ rw (block-length text at k h, e, add-assoc)))
+
+  pub end-length : length text ≤ at → endFrom text at ≡ at
+  unfolding upTo
+  end-length h = rw (drop-of-length-le text h, add-zero)
+
+  pub end-here : at < length text → eqb (getD text at 0) 10 ≡ true → endFrom text at ≡ at
+  end-here h t = rw (drop-cons text at 0 h, upTo-here _ _ t, add-zero)
+
+  pub end-step : at < length text → eqb (getD text at 0) 10 ≡ false → endFrom text at ≡ endFrom text (at + 1)
+  end-step h f = rw (drop-cons text at 0 h, upTo-later _ _ f, add-one) (omega arith)
+
+  -- A block tells its first byte 10, or is passed over whole.
+  module _ {r : ℕ} (k : ℕ) (h : at + k ≤ length text) (small : k ≤ 255) (e : r ≡ least (block text at k) k) where
+    block-told : Told (block text at k) k
+    block-told = least-told (block text at k) k (omega (arith, block-length text at k h)) small
+
+    pub end-block-found : r < k → at + r ≡ endFrom text at
+    end-block-found found =
+        ⊎-elim (λ none. absurd (omega (arith, none .0, found, small, e)))
+        (λ first. let told = upTo-found (block text at k) (drop (at + k) text) (omega (arith, block-length text at k h, first .1)) in
+          ap (λ (m : ℕ). at + m) (e ∙ (first .0 ∙ (sym told ∙ ap upTo (block-rest text at k)))))
+        block-told
+
+    pub end-block-passed : k ≤ r → endFrom text (at + k) ≡ endFrom text at
+    end-block-passed passed =
+        ⊎-elim
+        (λ none. let told = upTo-passed (block text at k) (drop (at + k) text) (omega (arith, block-length text at k h, none .1)) in
+          rw add-assoc (ap (λ (m : ℕ). at + m) (rw (block-length text at k h) at (sym told) ∙ ap upTo (block-rest text at k))))
+        (λ first. absurd (omega (arith, first .0, first .1, passed, e)))
+        block-told

@@ -1,0 +1,38 @@
+-- A text passed over byte by byte (internal: what the rules' lines come to for a walk).
+use Prim.Native.Nat.{ℕ, zero, suc, _+_, _-_, min}
+use mathlib.Core.Bool.{cond}
+use mathlib.Core.List.{List, [], _∷_}
+use lib.Dec.{eqb}
+use lib.ListN.{drop, getD}
+
+-- One number for a byte 10, which ends a line, and another for any other byte.
+unfoldable pub byBreak : ℕ → ℕ → ℕ → ℕ
+byBreak b ends other = cond (eqb b 10) ends other
+
+-- How many bytes 10 there are.
+unfoldable pub breaks : List ℕ → ℕ
+breaks [] = 0
+breaks (b ∷ text) = byBreak b 1 0 + breaks text
+
+-- How many bytes there are up to the n-th byte 10 and with it, or in all.
+unfoldable pub past : List ℕ → ℕ → ℕ
+past [] n = 0
+past (b ∷ text) zero = 0
+past (b ∷ text) (suc n) = suc (past text (suc n - byBreak b 1 0))
+
+-- How many bytes there are before the first byte 10, or in all.
+unfoldable pub upTo : List ℕ → ℕ
+upTo [] = 0
+upTo (b ∷ text) = cond (eqb b 10) 0 (suc (upTo text))
+
+-- The least place of a byte 10 among the first n bytes, or 255.
+unfoldable pub least : List ℕ → ℕ → ℕ
+least text zero = 255
+least text (suc n) = min (least text n) (byBreak (getD text n 0) n 255)
+
+-- From a place of a text on: the place behind the n-th byte 10, and the place of the first; or the text's end.
+abbrev pub pastFrom : List ℕ → ℕ → ℕ → ℕ
+pastFrom text at n = at + past (drop at text) n
+
+abbrev pub endFrom : List ℕ → ℕ → ℕ
+endFrom text at = at + upTo (drop at text)
