@@ -4,8 +4,10 @@ use ids::FolderNo;
 use ids::LoginNo;
 use ids::Request;
 use log_writer::Tail;
+use names::Stretch;
 ghost use mathlib.Core.Path.{_≡_};
 ghost use Rattle.audit_log.specs.Reader.{checked, stepAt};
+ghost use Rattle.names.specs.Name.{shown};
 ghost use Rattle.packing.specs.CopyOutcome.{packs};
 ghost use Rattle.policy.specs.Outcome.{outcome};
 ghost use Rattle.policy.specs.Session.{request};
@@ -163,4 +165,12 @@ pub extern "C" fn hc_number_read(log: &[u8], place: usize) -> HcNumber
     ensures { λ r. ⌜ r ≡ numberOf (reading 2 3 (now (log .entry)) place) ⌝ }
 {
     told::decoded(varint_read::read(log, place))
+}
+
+// The name shown for a folder, as a stretch of the client's or of the house's text.
+#[no_mangle]
+pub extern "C" fn hc_folder_name(client: &[u8], house: &[u8], folder: u16) -> Stretch
+    ensures { λ r. ⌜ r ≡ shown (now (client .entry)) (now (house .entry)) folder ⌝ }
+{
+    names::in_numbers(names::find(client, house, FolderNo(folder)))
 }

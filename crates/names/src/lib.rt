@@ -21,6 +21,7 @@ pub enum Name {
 }
 
 // An answer in numbers: 0 or 81; the text, 0 for the client's and 1 for the house's; the place in it, and how many bytes.
+#[repr(C)]
 pub struct Stretch {
     pub number: u16,
     pub text: u16,
