@@ -333,7 +333,7 @@ fn bytes_flipped_to_10_and_from_it() {
 
 /// Two texts of 65,536 lines: of three folders the client names one, the house this one and another, and nobody the third.
 #[test]
-fn all_numbers_that_a_folder_can_have() {
+fn folders_up_to_65_535() {
     let name = |whose: &str, folder: usize| format!("{whose} {folder}");
     let text = |whose: &str, names: [bool; 3]| -> String {
         (0..65_536)
