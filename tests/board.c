@@ -51,7 +51,7 @@ static void quoted(const char *bytes, size_t len) {
         case '\r': printf("\\r"); break;
         case '\t': printf("\\t"); break;
         case '\0': printf("\\0"); break;
-        default: printf("%c", bytes[i]);
+        default: printf(bytes[i] >= ' ' && bytes[i] <= '~' ? "%c" : "\\%03o", (uint8_t)bytes[i]);
         }
     }
     printf("\"");
@@ -130,6 +130,8 @@ static void ordinary_bytes(text house) {
     name(TEXT(" ours \r\n"), house, 0);
     name(TEXT("one\rline\0still"), house, 0);
     name(TEXT("one\rline\0still"), house, 1);
+    /* bytes that differ from 10 in little */
+    name(TEXT("\n\v\t\016\032\212\n"), house, 1);
 }
 
 /* ---- long texts, which are told by their form */
@@ -137,11 +139,11 @@ static void ordinary_bytes(text house) {
 static char room[LONGEST];
 
 /* A first line of so many letters, then "name". */
-static void after_a_line_of(size_t letters) {
+static void after_a_line_of(size_t letters, uint16_t folder) {
     memset(room, 'x', letters);
     memcpy(room + letters, "\nname\n", 6);
     printf("after a line of %zu letters", letters);
-    answer((text){room, letters + 6}, TEXT(""), 1);
+    answer((text){room, letters + 6}, TEXT(""), folder);
 }
 
 /* So many empty lines, then "name". */
@@ -155,7 +157,8 @@ static void after_empty_lines(size_t lines, uint16_t folder) {
 static void long_texts(void) {
     /* around blocks of 64 bytes */
     static const size_t letters[] = {57, 58, 59, 62, 63, 64, 65, 127, 128, 129, 1000};
-    for (size_t i = 0; i < sizeof letters / sizeof letters[0]; i++) after_a_line_of(letters[i]);
+    for (size_t i = 0; i < sizeof letters / sizeof letters[0]; i++) after_a_line_of(letters[i], 1);
+    after_a_line_of(129, 0);
     /* around numbers that fill a byte, and the last folder */
     static const size_t lines[] = {63, 64, 65, 255, 256, 257, 511, 512, 65534, 65535};
     for (size_t i = 0; i < sizeof lines / sizeof lines[0]; i++) after_empty_lines(lines[i], (uint16_t)lines[i]);
