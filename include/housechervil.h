@@ -65,7 +65,7 @@
 
 /* Nothing is refused. */
 #define HC_GRANTED 0  /* a request, and the answer in a record */
-#define HC_ACCEPTED 0 /* the register check, packing, unpacking, the whole-log check, a number */
+#define HC_ACCEPTED 0 /* the register check, packing, unpacking, the whole-log check, a number, a name */
 
 /* Refusals: a number means the same wherever it is answered. */
 #define HC_REGISTER_SIZES 1
@@ -90,6 +90,7 @@
 #define HC_PACK_CELL 60
 #define HC_PACK_LENGTHS 61
 #define HC_PACK_UNUSED_BITS 62
+#define HC_UNNAMED 81
 
 /* A step of the log reader that is no refusal. This 1 is not the register's: no step answers HC_REGISTER_SIZES. */
 #define HC_STEP_RECORD 0
@@ -100,6 +101,10 @@
 #define HC_SERIAL_EARLIER 1
 #define HC_SERIAL_UNDECIDED 2
 #define HC_SERIAL_LATER 3
+
+/* The text in which a folder's name was found. */
+#define HC_TEXT_CLIENT 0
+#define HC_TEXT_HOUSE 1
 
 /*
  * The words of an answer, never null. 0 is 'granted', as in a request and in a record; HC_STEP_RECORD and HC_STEP_END are not
@@ -131,6 +136,7 @@ __attribute__((unused)) static inline const char *hc_answer_words(uint16_t numbe
     case HC_PACK_CELL: return "a cell is above 3";
     case HC_PACK_LENGTHS: return "the packed length is not one quarter of the cells, rounded up";
     case HC_PACK_UNUSED_BITS: return "unused bits of the last packed byte are set";
+    case HC_UNNAMED: return "neither text has a name for the folder";
     default: return "no answer that this header knows";
     }
 }
@@ -325,6 +331,31 @@ typedef struct {
 
 hc_number hc_number_read(const uint8_t *log, size_t log_len, size_t place);
 
+/* ---- folder names */
+
+/*
+ * The name to show for a folder. The house keeps a text of folder names, one to a line in folder order; a client may send its own
+ * text in the same order. Line 0 is folder 0's. A line ends at byte 10 or at the end of the text, so a last line without a byte 10
+ * counts. The name is the client's line if it has one that is not empty, otherwise the house's.
+ *
+ *   number  when                                                            text              place, length
+ *   0       the client's line is not empty                                  HC_TEXT_CLIENT    the line in the client's text
+ *   0       the client has no such line or an empty one, and the house's
+ *           is not empty                                                    HC_TEXT_HOUSE     the line in the house's text
+ *   81      neither has one that is not empty                               0                 0, 0
+ *
+ * Nothing is copied: the name is `length` bytes of that text from `place` on. It has at least one byte, may hold every byte but 10
+ * and is not ended by a 0; carriage returns and blanks are bytes like others. Both texts are only read, so they may be the same or
+ * overlap. A client without a text of its own has one of length 0. Every folder number has an answer; no register is asked how many
+ * there are.
+ */
+typedef struct {
+    uint16_t number, text;
+    size_t place, length;
+} hc_stretch;
+
+hc_stretch hc_folder_name(const uint8_t *client, size_t client_len, const uint8_t *house, size_t house_len, uint16_t folder);
+
 /* ---- the sizes that the compiled library has */
 
 #ifdef __cplusplus
@@ -339,6 +370,7 @@ HC_STATIC_ASSERT(sizeof(hc_reply) == 24, "the size of hc_reply");
 HC_STATIC_ASSERT(sizeof(hc_placed) == 16, "the size of hc_placed");
 HC_STATIC_ASSERT(sizeof(hc_log_item) == 32, "the size of hc_log_item");
 HC_STATIC_ASSERT(sizeof(hc_number) == 16, "the size of hc_number");
+HC_STATIC_ASSERT(sizeof(hc_stretch) == 24, "the size of hc_stretch");
 
 #undef HC_STATIC_ASSERT
 

@@ -160,7 +160,7 @@ static void log_names(void) {
     WORDED(HC_LOG_FORM, hc_number_read(BYTES(172, 0), 0).number);
 }
 
-/* ---- packed copies and serials */
+/* ---- packed copies, serials and folder names */
 
 static void pack_names(void) {
     uint8_t packed[2] = {0}, cells[5] = {0};
@@ -181,6 +181,17 @@ static void serial_names(void) {
     PLAIN(HC_SERIAL_LATER, hc_serial_compare(0, 65535));
 }
 
+static hc_stretch name(uint16_t folder) {
+    return hc_folder_name(BYTES('a'), BYTES('b', 10, 'c'), folder);
+}
+
+static void text_names(void) {
+    PLAIN(HC_ACCEPTED, name(0).number);
+    PLAIN(HC_TEXT_CLIENT, name(0).text);
+    PLAIN(HC_TEXT_HOUSE, name(1).text);
+    WORDED(HC_UNNAMED, name(2).number);
+}
+
 int main(void) {
     printf("version %s: %d %d %d\n", HC_VERSION, HC_VERSION_MAJOR, HC_VERSION_MINOR, HC_VERSION_PATCH);
     register_names();
@@ -190,6 +201,7 @@ int main(void) {
     log_names();
     pack_names();
     serial_names();
+    text_names();
     printf("no answer: %s\n", hc_answer_words(65535));
     printf("no kind: %s, %s\n", hc_kind_words(0), hc_kind_words(HC_READ_AND_WRITE + 1));
     return wrong;

@@ -1,10 +1,11 @@
 /*
- * A small reading room: it files a register, asks for folders, prints each answer in words and then prints the log.
+ * A small reading room: it prints the board, files a register, asks for folders, prints each answer in words and then the log.
  *
  *     rt staticlib housechervil
  *     make -C examples/c check
  *
- * `check` compares what it prints with reading_room.stdout.
+ * `check` runs it on examples/house.names, the house's names of its folders, and examples/client.names, those that Aster Bank has for
+ * its own two, and compares what it prints with reading_room.stdout.
  */
 #include <housechervil.h>
 #include <stdio.h>
@@ -12,9 +13,6 @@
 enum { LOGINS = 2, FOLDERS = 5 };
 
 static const char *const login_names[LOGINS] = {"Ada", "Ben"};
-static const char *const folder_names[FOLDERS] = {
-    "the public shelf", "Aster Bank, loans", "Birch Bank, merger", "Copper Oil, wells", "Aster Bank, staff",
-};
 static const char *const kind_names[] = {
     [HC_READ] = "to read",
     [HC_CAREFUL_READ] = "to read, keeping all write rights,",
@@ -34,6 +32,64 @@ typedef struct {
     uint16_t serial;
 } room;
 
+/* ---- folder names */
+
+/* A text of folder names, one to a line in folder order. */
+typedef struct {
+    uint8_t bytes[65536];
+    size_t len;
+} names;
+
+static names client_names, house_names;
+
+/* Whether the whole file could be read: one that fills the buffer may be longer. */
+static int read_names(names *text, const char *path)
+{
+    FILE *file = fopen(path, "rb");
+    int whole;
+
+    if (file == NULL) {
+        perror(path);
+        return 0;
+    }
+    text->len = fread(text->bytes, 1, sizeof text->bytes, file);
+    whole = !ferror(file) && text->len < sizeof text->bytes;
+    fclose(file);
+    if (!whole) {
+        fprintf(stderr, "%s cannot be read, or is too long\n", path);
+    }
+    return whole;
+}
+
+static hc_stretch find_name(uint16_t folder)
+{
+    return hc_folder_name(client_names.bytes, client_names.len, house_names.bytes, house_names.len, folder);
+}
+
+/* A folder's number with its name. A name is a stretch of one of the texts, and no 0 ends it. */
+static void print_folder(uint16_t folder)
+{
+    hc_stretch name = find_name(folder);
+    const names *text = name.text == HC_TEXT_CLIENT ? &client_names : &house_names;
+
+    if (name.number == HC_UNNAMED) {
+        printf("%u, which has no name", folder);
+        return;
+    }
+    printf("%u '", folder);
+    fwrite(text->bytes + name.place, 1, name.length, stdout);
+    printf("'");
+}
+
+static void print_board(void)
+{
+    printf("the board:\n");
+    for (uint16_t folder = 0; folder < FOLDERS; folder++) {
+        print_folder(folder);
+        printf(", as the %s calls it\n", find_name(folder).text == HC_TEXT_CLIENT ? "client" : "house");
+    }
+}
+
 /* ---- the register */
 
 static void file_register(const char *title, const uint16_t *class_list, const uint16_t *client_list)
@@ -49,10 +105,14 @@ static void file_register(const char *title, const uint16_t *class_list, const u
         printf("too few or too many logins or folders\n");
         break;
     case HC_REGISTER_LONE_ZERO:
-        printf("'%s' has a class without a client, or a client without a class\n", folder_names[a.first]);
+        print_folder(a.first);
+        printf(" has a class without a client, or a client without a class\n");
         break;
     case HC_REGISTER_TWO_CLASSES:
-        printf("'%s' has another class than '%s', of the same client\n", folder_names[a.first], folder_names[a.second]);
+        print_folder(a.first);
+        printf(" has another class than ");
+        print_folder(a.second);
+        printf(", of the same client\n");
         break;
     }
 }
@@ -69,13 +129,19 @@ static void print_answer(hc_reply r)
         }
         break;
     case HC_RIVAL:
-        printf("refused, '%s' of a rival is open to this login", folder_names[r.first]);
+        printf("refused, ");
+        print_folder(r.first);
+        printf(" of a rival is open to this login");
         break;
     case HC_FOREIGN:
-        printf("refused, '%s' of another client is open to this login", folder_names[r.first]);
+        printf("refused, ");
+        print_folder(r.first);
+        printf(" of another client is open to this login");
         break;
     case HC_AT_STAKE:
-        printf("refused, the write right on '%s' would be lost", folder_names[r.first]);
+        printf("refused, the write right on ");
+        print_folder(r.first);
+        printf(" would be lost");
         break;
     case HC_LOG_FULL:
         printf("not decided, the log is full");
@@ -94,7 +160,9 @@ static void ask(room *here, uint16_t login, uint16_t kind, uint16_t folder)
 
     here->end = r.end;
     here->serial = r.serial;
-    printf("%s asks %s '%s': ", login_names[login], kind_names[kind], folder_names[folder]);
+    printf("%s asks %s ", login_names[login], kind_names[kind]);
+    print_folder(folder);
+    printf(": ");
     print_answer(r);
 }
 
@@ -105,13 +173,11 @@ static void print_list(const room *here, hc_log_item record)
 {
     size_t place = record.list;
 
-    if (record.count > 0) {
-        printf(", list");
-    }
     for (uint16_t i = 0; i < record.count; i++) {
         hc_number listed = hc_number_read(here->log, here->end, place);
 
-        printf(" %u", listed.value);
+        printf("%s ", i == 0 ? ", list" : ",");
+        print_folder(listed.value);
         place = listed.place;
     }
 }
@@ -128,17 +194,28 @@ static void print_log(const room *here)
     }
     printf("%zu records\n", whole.value);
     while (item.number == HC_STEP_RECORD) {
-        printf("%u: login %u, folder %u, kind %u, answer %u", item.serial, item.login, item.folder, item.kind, item.answer);
+        printf("%u: login %u, folder ", item.serial, item.login);
+        print_folder(item.folder);
+        printf(", kind %u, answer %u", item.kind, item.answer);
         print_list(here, item);
         printf("\n");
         item = hc_log_step(here->log, here->end, item.place);
     }
 }
 
-int main(void)
+int main(int argc, char **argv)
 {
     static const uint16_t slip[FOLDERS] = {0, 1, 1, 2, 2}; /* Aster Bank among the banks, then among the oil companies */
     static room here;                                       /* blank: no rights, no records, the first serial is 0 */
+
+    if (argc != 3) {
+        fprintf(stderr, "usage: reading_room HOUSE CLIENT, two texts of folder names, one to a line in folder order\n");
+        return 2;
+    }
+    if (!read_names(&house_names, argv[1]) || !read_names(&client_names, argv[2])) {
+        return 1;
+    }
+    print_board();
 
     file_register("the first register", slip, clients);
     file_register("the mended register", classes, clients);
@@ -153,6 +230,7 @@ int main(void)
     ask(&here, 0, HC_WRITE, 4);
     ask(&here, 1, HC_READ_AND_WRITE, 2);
     ask(&here, 1, HC_READ, 4);
+    ask(&here, 1, HC_READ, 5);
 
     print_log(&here);
     return 0;

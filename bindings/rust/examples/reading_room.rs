@@ -1,4 +1,4 @@
-//! A small reading room: it files a register, asks, prints the answers in words, and prints the log.
+//! A small reading room: it prints the board, files a register, asks, prints the answers in words, and prints the log.
 //!
 //! Run it with `cargo run --example reading_room`; its output is kept in `reading_room.stdout`.
 
@@ -6,21 +6,20 @@ use std::error::Error;
 use std::io::{self, Write};
 
 use housechervil::{
-    check_log, pack, ClassNo, ClientNo, FolderNo, Granted, Kind, LoginNo, Record, Refusal, Room, Serial, Verdict,
+    check_log, folder_name, pack, ClassNo, ClientNo, FolderNo, Granted, Kind, LoginNo, Record, Refusal, Room, Serial,
+    Verdict,
 };
 
 const READERS: [&str; 2] = ["Ada", "Ben"];
 
-/// Each folder's name, class and client. The two banks compete with each other; the oil company competes with neither.
-const FOLDERS: [(&str, u16, u16); 5] = [
-    ("the public shelf", 0, 0),
-    ("Alder Bank's accounts", 1, 1),
-    ("Birch Bank's accounts", 1, 2),
-    ("Cedar Oil's soundings", 2, 3),
-    ("Alder Bank's letters", 1, 1),
-];
+/// Each folder's class and client. The two banks compete with each other; the oil company competes with neither.
+const FOLDERS: [(u16, u16); 5] = [(0, 0), (1, 1), (1, 2), (2, 3), (1, 1)];
 
-const REQUESTS: [(u16, Kind, u16); 13] = [
+/// The house's names of its folders, and those that Aster Bank has for its own two.
+const HOUSE_NAMES: &[u8] = include_bytes!("../../../examples/house.names");
+const CLIENT_NAMES: &[u8] = include_bytes!("../../../examples/client.names");
+
+const REQUESTS: [(u16, Kind, u16); 14] = [
     (0, Kind::Write, 1),
     (0, Kind::Write, 3),
     (0, Kind::CarefulRead, 1),
@@ -33,6 +32,7 @@ const REQUESTS: [(u16, Kind, u16); 13] = [
     (1, Kind::ReadAndWrite, 2),
     (1, Kind::Write, 0),
     (1, Kind::Read, 4),
+    (1, Kind::Read, 5),
     (2, Kind::Read, 0),
 ];
 
@@ -42,8 +42,11 @@ fn main() -> Result<(), Box<dyn Error>> {
 
 /// Plays the whole day, and prints it.
 pub fn run(out: &mut dyn Write) -> Result<(), Box<dyn Error>> {
-    // The filing clerk's first draft has a slip: the letters stand in another class than the accounts of the same bank.
-    let mut labels = FOLDERS.map(|(_, class, client)| (ClassNo(class), ClientNo(client)));
+    board(out)?;
+
+    // The filing clerk's first draft has a slip: of one bank's two folders, the staff's stands in another class than the loans'.
+    writeln!(out)?;
+    let mut labels = FOLDERS.map(|(class, client)| (ClassNo(class), ClientNo(client)));
     labels[4].0 = ClassNo(2);
     writeln!(out, "The clerk files the register.")?;
     if let Err(error) = Room::new(READERS.len(), &labels, 4096, Serial(0)) {
@@ -95,12 +98,34 @@ pub fn run(out: &mut dyn Write) -> Result<(), Box<dyn Error>> {
     Ok(())
 }
 
+/// Prints the folders as the board shows them.
+fn board(out: &mut dyn Write) -> io::Result<()> {
+    writeln!(out, "The board:")?;
+    for folder in (0..).take(FOLDERS.len()).map(FolderNo) {
+        writeln!(out, "{}{}", name(folder), renamed(folder))?;
+    }
+    Ok(())
+}
+
 fn reader(login: LoginNo) -> &'static str {
     READERS.get(usize::from(login)).copied().unwrap_or("A stranger")
 }
 
-fn name(folder: FolderNo) -> &'static str {
-    FOLDERS.get(usize::from(folder)).map_or("an unknown folder", |(name, ..)| name)
+/// A folder's number with its name: the client's if it has one, otherwise the house's.
+fn name(folder: FolderNo) -> String {
+    match folder_name(CLIENT_NAMES, HOUSE_NAMES, folder) {
+        Some(name) => format!("{folder} '{}'", String::from_utf8_lossy(name)),
+        None => format!("{folder}, which has no name"),
+    }
+}
+
+/// What the house calls a folder for which the client has another name.
+fn renamed(folder: FolderNo) -> String {
+    let house = folder_name(&[], HOUSE_NAMES, folder);
+    match house.filter(|_| house != folder_name(CLIENT_NAMES, HOUSE_NAMES, folder)) {
+        Some(name) => format!(", which the house calls '{}'", String::from_utf8_lossy(name)),
+        None => String::new(),
+    }
 }
 
 fn names(record: &Record) -> String {

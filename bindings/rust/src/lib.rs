@@ -61,9 +61,10 @@
 //! | a number of the log | [`read_number`] | `hc_number_read` |
 //! | packed copies of cells | [`pack`], [`pack_into`], [`unpack`], [`unpack_into`] | `hc_pack`, `hc_unpack` |
 //! | serials | [`Serial::next`], [`Serial::compare`] | `hc_serial_next`, `hc_serial_compare` |
+//! | the name to show for a folder | [`folder_name`] | `hc_folder_name` |
 //!
 //! Every answer has a method `number` with its number in the rules. An answer that stands for a refusal is an
-//! [`Error`](std::error::Error).
+//! [`Error`](std::error::Error). A folder's name alone has no type of its own: it is a part of a text, or `None`, which is 81.
 //!
 //! A folder number, a client number, a class number and a login number are four types, so that one given in another's place does
 //! not build:
@@ -85,7 +86,8 @@
 //! - **Aliasing.** What the library writes is lent as `&mut`, so it overlaps nothing else that is lent. What it only reads is lent
 //!   as `&`, and no other thread can change it meanwhile.
 //! - **Lifetimes.** The library keeps no pointer after a call: it has no state, allocates nothing, calls nothing back and returns
-//!   numbers only. What this crate keeps, a [`Record`]'s log for example, is a borrow that the compiler watches.
+//!   numbers only. What this crate keeps, a [`Record`]'s log for example, and what it hands on, a folder's name, is a
+//!   borrow that the compiler watches.
 //! - **No conditions.** No function of the library has a precondition. Logins, folders and kinds out of range, lists of unequal
 //!   length, a matrix of a wrong length, an end past the log, a place past the log: each has its answer in the rules, is proved
 //!   to be given it, and then no byte has moved. So no check on this side has to hold, and none is relied on.
@@ -113,6 +115,7 @@ mod sys;
 
 mod ids;
 mod log;
+mod names;
 mod packing;
 mod register;
 mod request;
@@ -122,6 +125,7 @@ pub use ids::{
     ClassNo, ClientNo, FolderNo, Kind, KindNo, LoginNo, ParseKindError, Rights, Serial, SerialOrder, UnknownKind,
 };
 pub use log::{check_log, read_number, read_record, Listed, LogFault, Record, Records, Verdict};
+pub use names::folder_name;
 pub use packing::{pack, pack_into, packed_len, unpack, unpack_into, PackError, UnpackError};
 pub use register::{Register, RegisterError};
 pub use request::{Granted, Refusal, Reply, Request};

@@ -55,6 +55,16 @@ pub struct hc_number {
     pub place: usize,
 }
 
+/// A stretch of one of two texts.
+#[repr(C)]
+#[derive(Clone, Copy, Debug, PartialEq, Eq)]
+pub struct hc_stretch {
+    pub number: u16,
+    pub text: u16,
+    pub place: usize,
+    pub length: usize,
+}
+
 // `size_t` is `usize` on x86-64, and the structs have the sizes that a C compiler gives them there.
 const _: () = {
     assert!(size_of::<usize>() == 8);
@@ -63,6 +73,7 @@ const _: () = {
     assert!(size_of::<hc_placed>() == 16);
     assert!(size_of::<hc_log_item>() == 32);
     assert!(size_of::<hc_number>() == 16);
+    assert!(size_of::<hc_stretch>() == 24);
 };
 
 extern "C" {
@@ -104,4 +115,12 @@ extern "C" {
     pub fn hc_log_check(log: *const u8, log_len: usize) -> hc_placed;
 
     pub fn hc_number_read(log: *const u8, log_len: usize, place: usize) -> hc_number;
+
+    pub fn hc_folder_name(
+        client: *const u8,
+        client_len: usize,
+        house: *const u8,
+        house_len: usize,
+        folder: u16,
+    ) -> hc_stretch;
 }

@@ -1,9 +1,9 @@
 //! Lengths of 0, everywhere through the safe crate: answered, not touched.
 
 use housechervil::{
-    check_log, pack, pack_into, packed_len, read_number, read_record, unpack, unpack_into, ClassNo, ClientNo, FolderNo,
-    Kind, KindNo, LogFault, LoginNo, PackError, Records, Refusal, Register, RegisterError, Request, Room, Serial,
-    UnpackError,
+    check_log, folder_name, pack, pack_into, packed_len, read_number, read_record, unpack, unpack_into, ClassNo,
+    ClientNo, FolderNo, Kind, KindNo, LogFault, LoginNo, PackError, Records, Refusal, Register, RegisterError, Request,
+    Room, Serial, UnpackError,
 };
 
 #[test]
@@ -95,4 +95,20 @@ fn empty_cells() {
     assert_eq!(pack_into(&[], &mut [1]), Err(PackError::Lengths));
     assert_eq!(unpack_into(&[], &mut [1]), Err(UnpackError::Lengths));
     assert_eq!(bytes, [0xa5; 64]);
+}
+
+#[test]
+fn empty_texts() {
+    for folder in [0, 1, 511, 65_535].map(FolderNo) {
+        assert_eq!(folder_name(&[], &[], folder), None);
+    }
+    // An empty slice in the midst of a name, and of line ends.
+    for byte in [b'a', 10] {
+        let bytes = [byte; 64];
+        let empty = &bytes[32..32];
+        assert_eq!(folder_name(empty, empty, FolderNo(0)), None);
+        assert_eq!(folder_name(empty, b"name", FolderNo(0)), Some(&b"name"[..]));
+        assert_eq!(folder_name(b"name", empty, FolderNo(0)), Some(&b"name"[..]));
+        assert_eq!(folder_name(b"name", empty, FolderNo(1)), None);
+    }
 }

@@ -105,7 +105,7 @@ fn answers_of_register_and_request() {
 }
 
 #[test]
-fn answers_of_log_and_packing() {
+fn answers_of_log_packing_and_names() {
     let place = 0;
     Header::read().numbers([
         ("HC_LOG_PLACE_PAST_END", LogFault::PastEnd { place }.number()),
@@ -118,5 +118,9 @@ fn answers_of_log_and_packing() {
         ("HC_PACK_LENGTHS", PackError::Lengths.number()),
         ("HC_PACK_LENGTHS", UnpackError::Lengths.number()),
         ("HC_PACK_UNUSED_BITS", UnpackError::UnusedBits.number()),
+        // In the crate a name is a part of a text, or none.
+        ("HC_UNNAMED", 81),
+        ("HC_TEXT_CLIENT", 0),
+        ("HC_TEXT_HOUSE", 1),
     ]);
 }

@@ -156,6 +156,27 @@ fn packing() {
     }
 }
 
+/// Lengths up to some blocks of 64 bytes, and around a page; the name sought at the text's start, in the midst and at its end.
+#[test]
+fn names() {
+    let mut random = Random::new(63);
+    let (mut client, mut house) = (Fenced::new(2 * PAGE), Fenced::new(2 * PAGE));
+    for len in (0..=330).chain([PAGE - 1, PAGE, PAGE + 1, 2 * PAGE - 1, 2 * PAGE]) {
+        for ends in [1, 3, 70, usize::MAX] {
+            let content: Vec<u8> = (0..len).map(|_| if random.once_in(ends) { 10 } else { b'a' }).collect();
+            let lines = content.iter().filter(|&&byte| byte == 10).count() as u16;
+            for side in SIDES {
+                let (client, house) = (client.hold(&content, side), house.hold(&content, side));
+                for folder in [0, 1, lines / 2, lines.saturating_sub(1), lines, lines + 1, 65_535] {
+                    support::same_name(client, &[], folder);
+                    support::same_name(&[], house, folder);
+                    support::same_name(client, house, folder);
+                }
+            }
+        }
+    }
+}
+
 #[test]
 fn logs() {
     let mut random = Random::new(62);

@@ -160,3 +160,55 @@ pub fn cells() -> Vec<u8> {
     let mut random = Random(5);
     (0..65_536).map(|_| random.below(4) as u8).collect()
 }
+
+/// A client's text of folder names and the house's.
+pub struct Texts {
+    pub client: Vec<u8>,
+    pub house: Vec<u8>,
+}
+
+/// How many lines a text has.
+const LINES: usize = 512;
+
+/// Some dozens of pairs of texts of `len` bytes each. Half of the client's lines are empty, other ones in each pair.
+pub fn texts(len: usize) -> Vec<Texts> {
+    let mut random = Random(11);
+    (0..48).map(|_| Texts { client: text(&mut random, len, LINES / 2), house: text(&mut random, len, LINES) }).collect()
+}
+
+/// A text of `len` bytes in which so many lines are not empty. Two of these share what is theirs, so their lengths are random and
+/// their sum is not.
+fn text(random: &mut Random, len: usize, named: usize) -> Vec<u8> {
+    let mean = (len - LINES) / named;
+    let mut lengths = vec![0; LINES];
+    for two in lengths[..named].chunks_exact_mut(2) {
+        two[0] = 1 + random.below(2 * mean - 1);
+        two[1] = 2 * mean - two[0];
+    }
+    shuffle(random, &mut lengths);
+    let mut text = Vec::with_capacity(len);
+    for length in lengths {
+        text.extend((0..length).map(|_| b'a' + random.below(26) as u8));
+        text.push(10);
+    }
+    assert_eq!(text.len(), len);
+    text
+}
+
+/// Many orders in which to go through so many pairs: one alone would be learnt by the processor.
+pub fn orders(pairs: usize) -> Vec<Vec<usize>> {
+    let mut random = Random(13);
+    let mut order: Vec<usize> = (0..pairs).collect();
+    (0..200)
+        .map(|_| {
+            shuffle(&mut random, &mut order);
+            order.clone()
+        })
+        .collect()
+}
+
+fn shuffle(random: &mut Random, list: &mut [usize]) {
+    for last in (1..list.len()).rev() {
+        list.swap(last, random.below(last + 1));
+    }
+}

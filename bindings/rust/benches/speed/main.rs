@@ -18,7 +18,7 @@ mod timing;
 use std::hint::black_box;
 
 use housechervil::{ClassNo, ClientNo, FolderNo, KindNo, LoginNo, Register, Request, Serial};
-use inputs::Input;
+use inputs::{Input, Texts};
 use reference::{Ask, House, Reply};
 use timing::{compare, Measured, Task};
 
@@ -31,6 +31,7 @@ fn main() {
     growth();
     logs();
     packing();
+    names();
 }
 
 fn by_library(
@@ -257,5 +258,53 @@ fn packing() {
         let times: Vec<String> = measured.iter().map(ns).collect();
         let ratios: Vec<String> = (1..measured.len()).map(|other| ratio(&measured, other)).collect();
         println!("| {name} | {} | {} |", times.join(" | "), ratios.join(" | "));
+    }
+    println!();
+}
+
+/// The task of naming a folder in each pair of texts, in another order each time. So every task is the same work, and which text has
+/// the name is not foretold.
+fn naming<'a>(
+    texts: &'a [Texts],
+    orders: &'a [Vec<usize>],
+    folder: FolderNo,
+    way: impl for<'t> Fn(&'t [u8], &'t [u8], FolderNo) -> Option<&'t [u8]> + 'a,
+) -> Task<'a> {
+    let mut orders = orders.iter().cycle();
+    Box::new(move |times| {
+        for order in orders.by_ref().take(times) {
+            for &pair in order {
+                let Texts { client, house } = &texts[pair];
+                black_box(way(black_box(client), black_box(house), black_box(folder)));
+            }
+        }
+    })
+}
+
+fn names() {
+    println!("## Folder names, texts of 512 lines each, half of the client's lines empty\n");
+    println!("| Name | library | Rust | library / Rust |");
+    println!("|---|---|---|---|");
+    for len in [65_536, 8_192] {
+        let texts = inputs::texts(len);
+        let orders = inputs::orders(texts.len());
+        for folder in [0, 255, 511].map(FolderNo) {
+            for Texts { client, house } in &texts {
+                let name = housechervil::folder_name(client, house, folder).expect("the house names every folder");
+                assert_eq!(
+                    baseline::folder_name(client, house, folder).map(<[u8]>::as_ptr_range),
+                    Some(name.as_ptr_range())
+                );
+            }
+            let mut measured = compare(vec![
+                naming(&texts, &orders, folder, housechervil::folder_name),
+                naming(&texts, &orders, folder, baseline::folder_name),
+            ]);
+            for each in &mut measured {
+                each.least /= texts.len() as f64;
+            }
+            let times: Vec<String> = measured.iter().map(ns).collect();
+            println!("| {} KiB, folder {folder} | {} | {} |", len / 1024, times.join(" | "), ratio(&measured, 1));
+        }
     }
 }

@@ -7,7 +7,7 @@ use housechervil::{
     ClassNo, ClientNo, FolderNo, KindNo, LogFault, LoginNo, PackError, Register, Request, Serial, UnpackError,
 };
 
-use crate::reference::{self, Ask, Fault, House, Record, Refusal, Reply};
+use crate::reference::{self, Ask, Fault, House, Record, Refusal, Reply, Stretch, Text};
 
 #[allow(non_camel_case_types)]
 #[path = "../../src/sys.rs"]
@@ -78,6 +78,14 @@ impl Guarded {
         bytes.extend_from_slice(content);
         bytes.extend(random.bytes(32));
         Guarded { bytes, from, len: content.len() }
+    }
+
+    /// The content between guards that are all the same byte.
+    pub fn between(byte: u8, content: &[u8]) -> Guarded {
+        let mut bytes = vec![byte; 65];
+        bytes.extend_from_slice(content);
+        bytes.extend([byte; 65]);
+        Guarded { bytes, from: 65, len: content.len() }
     }
 
     pub fn inner(&self) -> &[u8] {
@@ -406,6 +414,35 @@ pub fn same_unpack(packed: &Guarded, cells: &mut Guarded) -> u16 {
     assert_eq!(safe.map_or_else(UnpackError::number, |()| 0), number, "safe crate, {context}");
     assert!(safe_cells == *cells && safe_packed == *packed, "buffers, safe crate, {context}");
     number
+}
+
+/// The name to show for a folder: both ways into the library against the reference. The crate's name is compared by the places where
+/// it begins and ends, so it is seen to be a part of its text and no copy.
+#[track_caller]
+pub fn same_name(client: &[u8], house: &[u8], folder: u16) -> Option<Stretch> {
+    let expected = reference::folder_name(client, house, folder);
+    let (answer, part) = match expected {
+        Some(Stretch { text, place, length }) => {
+            let (number, whole) = match text {
+                Text::Client => (0, client),
+                Text::House => (1, house),
+            };
+            (sys::hc_stretch { number: 0, text: number, place, length }, Some(&whole[place..][..length]))
+        }
+        None => (sys::hc_stretch { number: 81, text: 0, place: 0, length: 0 }, None),
+    };
+    let context = || format!("folder {folder}, client's text {}, house's text {}", shown(client), shown(house));
+    // SAFETY: pointers and lengths are of slices.
+    let raw = unsafe { sys::hc_folder_name(client.as_ptr(), client.len(), house.as_ptr(), house.len(), folder) };
+    assert_eq!(raw, answer, "C interface, {}", context());
+    let safe = housechervil::folder_name(client, house, FolderNo(folder));
+    assert_eq!(safe.map(<[u8]>::as_ptr_range), part.map(<[u8]>::as_ptr_range), "safe crate, {}", context());
+    expected
+}
+
+/// A text's length and its first bytes.
+fn shown(text: &[u8]) -> String {
+    format!("of {} bytes, \"{}\"", text.len(), text[..text.len().min(300)].escape_ascii())
 }
 
 // ---------------------------------------------------------------- how often each answer came
