@@ -1,3 +1,4 @@
 pub mod Passing
 pub mod Lines
 pub mod Names
+pub mod Claims

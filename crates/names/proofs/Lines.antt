@@ -72,9 +72,9 @@ lineStart-past (b ∷ text) zero = zero-min _ ∙ sym (past-zero (b ∷ text))
 lineStart-past (b ∷ text) (suc o) =
     ⊎-elim
     (λ t. ap (λ (n : ℕ). min n (suc (length text))) (before-ends b text o t)
-      ∙ (suc-min-suc _ _ ∙ (ap suc (lineStart-past text o) ∙ sym (past-ends b text o t))))
+    ∙ (suc-min-suc _ _ ∙ (ap suc (lineStart-past text o) ∙ sym (past-ends b text o t))))
     (λ f. ap (λ (n : ℕ). min n (suc (length text))) (before-other b text o f)
-      ∙ (suc-min-suc _ _ ∙ (ap suc (lineStart-past text (suc o)) ∙ sym (past-other b text o f))))
+    ∙ (suc-min-suc _ _ ∙ (ap suc (lineStart-past text (suc o)) ∙ sym (past-other b text o f))))
     (true-or-false (eqb b 10))
 
 -- ---- the line
@@ -105,7 +105,7 @@ line-there (b ∷ text) zero =
     ⊎-elim
     (λ t. rw (lines-ends b text t, past-zero (b ∷ text)) (sym (upToFirst-here b text t)))
     (λ f. rw (lines-other b text f, past-zero (b ∷ text), upToFirst-later b text f)
-      (ap (λ (l : List ℕ). b ∷ l) (rw (past-zero text) at (line-there text 0))))
+    (ap (λ (l : List ℕ). b ∷ l) (rw (past-zero text) at (line-there text 0))))
     (true-or-false (eqb b 10))
 line-there (b ∷ text) (suc o) =
     ⊎-elim
@@ -168,7 +168,7 @@ joined-lines [] = joined-none
 joined-lines (b ∷ text) =
     ⊎-elim
     (λ t. ap joined (lines-ends b text t)
-      ∙ (joined-ends text ∙ (ap (λ (l : List ℕ). 10 ∷ l) (joined-lines text) ∙ ap (λ (n : ℕ). n ∷ text) (sym (eqb-true b 10 t)))))
+    ∙ (joined-ends text ∙ (ap (λ (l : List ℕ). 10 ∷ l) (joined-lines text) ∙ ap (λ (n : ℕ). n ∷ text) (sym (eqb-true b 10 t)))))
     (λ f. ap joined (lines-other b text f)
-      ∙ (joined-longer b _ _ ∙ ap (λ (l : List ℕ). b ∷ l) (ap joined (sym (lines-some text)) ∙ joined-lines text)))
+    ∙ (joined-longer b _ _ ∙ ap (λ (l : List ℕ). b ∷ l) (ap joined (sym (lines-some text)) ∙ joined-lines text)))
     (true-or-false (eqb b 10))

@@ -14,7 +14,6 @@ use Rattle.vocabulary.proofs.Those.{some-none}
 use Rattle.names.specs.Lines.{lineAt, lineOf, lineStart}
 use Rattle.names.specs.Name.{nameOf, noStretch, shown, stretchOf}
 use Rattle.names.specs.Part.{Part, namePart}
-use Rattle.names.specs.Claims.{StretchHolds}
 use Rattle.names.specs.declared.Line.{Line}
 use Rattle.names.specs.declared.Stretch.{Stretch}
 use Rattle.names.proofs.Lines.{line-fits, lineOf-at}
@@ -72,13 +71,13 @@ module _ (client house : List ℕ) (o : ℕ) where
   unfolding shown nameOf
   shown-fit = fit-by (some (lineOf client o)) (some (lineOf house o)) refl refl
 
-  pub stretch-holds : StretchHolds client house o
+  pub shown-lies : take (shown client house o .length) (drop (shown client house o .place) (textOf (shown client house o))) ≡ nameOf client house o
   unfolding Fit
-  stretch-holds =
-      record {
-        bytes = shown-fit .0;
-        number = shown-fit .2;
-      }
+  shown-lies = shown-fit .0
+
+  pub shown-number : shown client house o .number ≡ cond (some (nameOf client house o)) 0 81
+  unfolding Fit
+  shown-number = shown-fit .2
 
   pub stretch-fits : {s : Stretch} → s ≡ shown client house o → s .place + s .length ≤ length (textOf s)
   unfolding Fit
@@ -96,8 +95,8 @@ part-equal p q = rw (p, q)
 pub part-shown : (client house : Part) (o : ℕ) {s : Stretch} → s ≡ shown (client .bytes) (house .bytes) o
     → _≡_ {A = Part}
     (let text : Part = cond (eqb (s .text) 0) client house in
-      record { block = text .block; start = s .place + text .start; bytes = take (s .place + s .length - s .place) (drop (s .place) (text .bytes)) })
+    record { block = text .block; start = s .place + text .start; bytes = take (s .place + s .length - s .place) (drop (s .place) (text .bytes)) })
     (namePart client house o)
 part-shown client house o e =
     rw e (part-equal (add-comm _ _)
-      (rw (add-sub-cancel-left, cond-bytes client house _) (stretch-holds (client .bytes) (house .bytes) o .bytes)))
+    (rw (add-sub-cancel-left, cond-bytes client house _) (shown-lies (client .bytes) (house .bytes) o)))

@@ -116,14 +116,17 @@ unfolding least
 told-suc text n h k (inl none) =
     ⊎-elim
     (λ t. let first : upTo text ≡ n = upTo-at text n h (none .1) t in
-      inr (rw (none .0, byBreak-true _ n 255 t, first) (min-eq-right (omega (arith, k))), omega (arith, first)))
+    inr (rw (none .0, byBreak-true _ n 255 t, first) (min-eq-right (omega (arith, k))), omega (arith, first)))
     (λ f. inl (rw (none .0, byBreak-false _ n 255 f), upTo-on text n h (none .1) f))
     (true-or-false (eqb (getD text n 0) 10))
 told-suc text n h k (inr found) =
-    inr (rw (found .0) (min-eq-left (⊎-elim
-      (λ t. omega (arith, byBreak-true (getD text n 0) n 255 t, found .1))
-      (λ f. omega (arith, byBreak-false (getD text n 0) n 255 f, found .1, k))
-      (true-or-false (eqb (getD text n 0) 10)))), omega (arith, found .1))
+    inr (
+      rw (found .0) (min-eq-left (⊎-elim
+          (λ t. omega (arith, byBreak-true (getD text n 0) n 255 t, found .1))
+          (λ f. omega (arith, byBreak-false (getD text n 0) n 255 f, found .1, k))
+          (true-or-false (eqb (getD text n 0) 10)))),
+      omega (arith, found .1),
+    )
 
 pub least-told : (text : List ℕ) (n : ℕ) → n ≤ length text → n ≤ 255 → Told text n
 unfolding least
@@ -173,7 +176,7 @@ module _ (text : List ℕ) (at : ℕ) where
   past-block k n h e few =
       let passed = past-append (block text at k) (drop (at + k) text) n (omega (arith, e, few)) in
       sym (ap (λ (l : List ℕ). at + past l n) (sym (block-rest text at k))
-        ∙ (ap (λ (m : ℕ). at + m) passed ∙ rw (block-length text at k h, e, add-assoc)))
+      ∙ (ap (λ (m : ℕ). at + m) passed ∙ rw (block-length text at k h, e, add-assoc)))
 
   pub end-length : length text ≤ at → endFrom text at ≡ at
   unfolding upTo
@@ -194,13 +197,13 @@ module _ (text : List ℕ) (at : ℕ) where
     end-block-found found =
         ⊎-elim (λ none. absurd (omega (arith, none .0, found, small, e)))
         (λ first. let told = upTo-found (block text at k) (drop (at + k) text) (omega (arith, block-length text at k h, first .1)) in
-          ap (λ (m : ℕ). at + m) (e ∙ (first .0 ∙ (sym told ∙ ap upTo (block-rest text at k)))))
+        ap (λ (m : ℕ). at + m) (e ∙ (first .0 ∙ (sym told ∙ ap upTo (block-rest text at k)))))
         block-told
 
     pub end-block-passed : k ≤ r → endFrom text (at + k) ≡ endFrom text at
     end-block-passed passed =
         ⊎-elim
         (λ none. let told = upTo-passed (block text at k) (drop (at + k) text) (omega (arith, block-length text at k h, none .1)) in
-          rw add-assoc (ap (λ (m : ℕ). at + m) (rw (block-length text at k h) at (sym told) ∙ ap upTo (block-rest text at k))))
+        rw add-assoc (ap (λ (m : ℕ). at + m) (rw (block-length text at k h) at (sym told) ∙ ap upTo (block-rest text at k))))
         (λ first. absurd (omega (arith, first .0, first .1, passed, e)))
         block-told

@@ -6,7 +6,7 @@ use lib.Dec.{eqb}
 use lib.ListN.{length, getD, take}
 use Rattle.names.specs.declared.Line.{Line}
 
--- Lines, the first of them with a byte put before it.
+-- Lines, the first of them with a byte put before it. (A text has at least one line.)
 unfoldable pub longer : ℕ → List (List ℕ) → List (List ℕ)
 longer b [] = []
 longer b (line ∷ rest) = (b ∷ line) ∷ rest

@@ -1,0 +1,21 @@
+-- The claims about lines and names, proved.
+use Prim.Native.Nat.{ℕ}
+use mathlib.Core.List.{List}
+use Rattle.names.specs.Claims.{LinesExact, NameExact}
+use Rattle.names.proofs.Lines.{joined-lines, lineOf-at, lineOf-parts}
+use Rattle.names.proofs.Names.{shown-lies, shown-number}
+
+pub lines-exact : LinesExact
+lines-exact =
+    record {
+      joins = joined-lines;
+      parts = lineOf-parts;
+      lies = lineOf-at;
+    }
+
+pub name-exact : (client house : List ℕ) (o : ℕ) → NameExact client house o
+name-exact client house o =
+    record {
+      lies = shown-lies client house o;
+      number = shown-number client house o;
+    }
