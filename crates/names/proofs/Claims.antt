@@ -2,15 +2,15 @@
 use Prim.Native.Nat.{ℕ}
 use mathlib.Core.List.{List}
 use Rattle.names.specs.Claims.{LinesExact, NameExact}
-use Rattle.names.proofs.Lines.{joined-lines, lineOf-at, lineOf-parts}
+use Rattle.names.proofs.Lines.{joinedLines-lines, lineFor-at, lineFor-parts}
 use Rattle.names.proofs.Names.{shown-lies, shown-number}
 
 pub lines-exact : LinesExact
 lines-exact =
     record {
-      joins = joined-lines;
-      parts = lineOf-parts;
-      lies = lineOf-at;
+      joins = joinedLines-lines;
+      parts = lineFor-parts;
+      lies = lineFor-at;
     }
 
 pub name-exact : (client house : List ℕ) (o : ℕ) → NameExact client house o

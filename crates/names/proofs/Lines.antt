@@ -12,9 +12,9 @@ use lib.Seq.{drop-cons, length-take-le}
 use borrow.Author.Tests.{eqb-true, eqb-false, ne-eqb}
 use Rattle.vocabulary.proofs.Bools.{true-or-false}
 use Rattle.vocabulary.specs.Those.{member}
-use Rattle.names.specs.Lines.{ended, lineAt, lineOf, lines, lineStart, longer}
-use Rattle.names.specs.Claims.{joined}
-use Rattle.names.specs.declared.Line.{Line}
+use Rattle.names.specs.Lines.{withEnds, lineSpan, lineFor, lines, lineStart, longer}
+use Rattle.names.specs.Claims.{joinedLines}
+use Rattle.names.specs.declared.Span.{Span}
 use Rattle.names.specs.Scan.{endFrom, past, upTo}
 use Rattle.names.proofs.Passing.{past-ends, past-nil, past-other, past-zero, upTo-here, upTo-later, upTo-most}
 
@@ -53,20 +53,20 @@ lines-other b text f = lines-longer b text f ∙ ap (longer b) (lines-some text)
 
 -- What lies before line o: the lines, each with its byte 10.
 before : List ℕ → ℕ → ℕ
-before text o = length (ended (take o (lines text)))
+before text o = length (withEnds (take o (lines text)))
 
 module _ (b : ℕ) (text : List ℕ) (o : ℕ) where
   before-ends : eqb b 10 ≡ true → before (b ∷ text) (suc o) ≡ suc (before text o)
-  unfolding before ended
+  unfolding before withEnds
   before-ends t = rw (lines-ends b text t)
 
   before-other : eqb b 10 ≡ false → before (b ∷ text) (suc o) ≡ suc (before text (suc o))
-  unfolding before ended
+  unfolding before withEnds
   before-other f = rw (lines-other b text f, lines-some text)
 
 -- The start of a line is where as many bytes 10 are passed.
 pub lineStart-past : (text : List ℕ) (o : ℕ) → lineStart text o ≡ past text o
-unfolding lineStart before ended
+unfolding lineStart before withEnds
 lineStart-past [] o = min-zero _ ∙ sym (past-nil o)
 lineStart-past (b ∷ text) zero = zero-min _ ∙ sym (past-zero (b ∷ text))
 lineStart-past (b ∷ text) (suc o) =
@@ -93,13 +93,13 @@ module _ (b : ℕ) (text : List ℕ) where
   upToFirst-later f = rw (upTo-later b text f)
 
 -- A line is what lies between its start and the next byte 10.
-line-nil : (o : ℕ) → lineOf [] o ≡ upToFirst (drop (past [] o) [])
-unfolding lineOf lines past upTo upToFirst
+line-nil : (o : ℕ) → lineFor [] o ≡ upToFirst (drop (past [] o) [])
+unfolding lineFor lines past upTo upToFirst
 line-nil zero = refl
 line-nil (suc o) = refl
 
-line-there : (text : List ℕ) (o : ℕ) → lineOf text o ≡ upToFirst (drop (past text o) text)
-unfolding lineOf
+line-there : (text : List ℕ) (o : ℕ) → lineFor text o ≡ upToFirst (drop (past text o) text)
+unfolding lineFor
 line-there [] o = line-nil o
 line-there (b ∷ text) zero =
     ⊎-elim
@@ -114,28 +114,28 @@ line-there (b ∷ text) (suc o) =
     (true-or-false (eqb b 10))
 
 module _ (text : List ℕ) (o : ℕ) where
-  pub length-lineOf : length (lineOf text o) ≡ upTo (drop (past text o) text)
+  pub length-lineFor : length (lineFor text o) ≡ upTo (drop (past text o) text)
   unfolding upToFirst
-  length-lineOf = rw (line-there text o) (length-take-le _ _ (upTo-most (drop (past text o) text)))
+  length-lineFor = rw (line-there text o) (length-take-le _ _ (upTo-most (drop (past text o) text)))
 
   pub past-most : past text o ≤ length text
   unfolding lineStart
-  past-most = rw (lineStart-past text o) at (min-le-right (length (ended (take o (lines text)))) (length text))
+  past-most = rw (lineStart-past text o) at (min-le-right (length (withEnds (take o (lines text)))) (length text))
 
   -- The line lies inside the text.
-  pub line-fits : lineStart text o + length (lineOf text o) ≤ length text
+  pub line-fits : lineStart text o + length (lineFor text o) ≤ length text
   line-fits =
-      rw (lineStart-past text o, length-lineOf)
+      rw (lineStart-past text o, length-lineFor)
       (omega (arith, past-most, upTo-most (drop (past text o) text), length-drop (past text o) text))
 
-  pub lineOf-at : take (length (lineOf text o)) (drop (lineStart text o) text) ≡ lineOf text o
+  pub lineFor-at : take (length (lineFor text o)) (drop (lineStart text o) text) ≡ lineFor text o
   unfolding upToFirst
-  lineOf-at = rw (length-lineOf, lineStart-past text o) (sym (line-there text o))
+  lineFor-at = rw (length-lineFor, lineStart-past text o) (sym (line-there text o))
 
   -- What a walk measures: the start, and from there the end.
   pub line-measured : {start end : ℕ} → start ≡ past text o → end ≡ endFrom text start
-      → _≡_ {A = Line} (record { place = start; length = end - start }) (lineAt text o)
-  line-measured s e = rw (lineStart-past text o, length-lineOf, e, s, add-sub-cancel-left)
+      → _≡_ {A = Span} (record { place = start; length = end - start }) (lineSpan text o)
+  line-measured s e = rw (lineStart-past text o, length-lineFor, e, s, add-sub-cancel-left)
 
 -- No byte 10 is in a line.
 member-upToFirst : (text : List ℕ) → member 10 (upToFirst text) ≡ false
@@ -146,29 +146,29 @@ member-upToFirst (b ∷ text) =
     (λ f. rw (upToFirst-later b text f) (rw (ne-eqb 10 b (λ e. eqb-false b 10 f (sym e))) (member-upToFirst text)))
     (true-or-false (eqb b 10))
 
-pub lineOf-parts : (text : List ℕ) (o : ℕ) → member 10 (lineOf text o) ≡ false
-lineOf-parts text o = rw (line-there text o) (member-upToFirst (drop (past text o) text))
+pub lineFor-parts : (text : List ℕ) (o : ℕ) → member 10 (lineFor text o) ≡ false
+lineFor-parts text o = rw (line-there text o) (member-upToFirst (drop (past text o) text))
 
 -- Joined by byte 10, the lines are the text.
-joined-longer : (b : ℕ) (line : List ℕ) (rest : List (List ℕ)) → joined ((b ∷ line) ∷ rest) ≡ b ∷ joined (line ∷ rest)
-unfolding joined
-joined-longer b line [] = refl
-joined-longer b line (next ∷ rest) = refl
+joinedLines-longer : (b : ℕ) (line : List ℕ) (rest : List (List ℕ)) → joinedLines ((b ∷ line) ∷ rest) ≡ b ∷ joinedLines (line ∷ rest)
+unfolding joinedLines
+joinedLines-longer b line [] = refl
+joinedLines-longer b line (next ∷ rest) = refl
 
-joined-ends : (text : List ℕ) → joined ([] ∷ lines text) ≡ 10 ∷ joined (lines text)
-unfolding joined
-joined-ends text = rw (lines-some text)
+joinedLines-ends : (text : List ℕ) → joinedLines ([] ∷ lines text) ≡ 10 ∷ joinedLines (lines text)
+unfolding joinedLines
+joinedLines-ends text = rw (lines-some text)
 
-joined-none : joined (lines []) ≡ []
-unfolding joined lines
-joined-none = refl
+joinedLines-none : joinedLines (lines []) ≡ []
+unfolding joinedLines lines
+joinedLines-none = refl
 
-pub joined-lines : (text : List ℕ) → joined (lines text) ≡ text
-joined-lines [] = joined-none
-joined-lines (b ∷ text) =
+pub joinedLines-lines : (text : List ℕ) → joinedLines (lines text) ≡ text
+joinedLines-lines [] = joinedLines-none
+joinedLines-lines (b ∷ text) =
     ⊎-elim
-    (λ t. ap joined (lines-ends b text t)
-    ∙ (joined-ends text ∙ (ap (λ (l : List ℕ). 10 ∷ l) (joined-lines text) ∙ ap (λ (n : ℕ). n ∷ text) (sym (eqb-true b 10 t)))))
-    (λ f. ap joined (lines-other b text f)
-    ∙ (joined-longer b _ _ ∙ ap (λ (l : List ℕ). b ∷ l) (ap joined (sym (lines-some text)) ∙ joined-lines text)))
+    (λ t. ap joinedLines (lines-ends b text t)
+    ∙ (joinedLines-ends text ∙ (ap (λ (l : List ℕ). 10 ∷ l) (joinedLines-lines text) ∙ ap (λ (n : ℕ). n ∷ text) (sym (eqb-true b 10 t)))))
+    (λ f. ap joinedLines (lines-other b text f)
+    ∙ (joinedLines-longer b _ _ ∙ ap (λ (l : List ℕ). b ∷ l) (ap joinedLines (sym (lines-some text)) ∙ joinedLines-lines text)))
     (true-or-false (eqb b 10))

@@ -1,6 +1,5 @@
 -- Laws of the name that is shown: what two lines say, and where it lies.
-use Prim.Native.Nat.{ℕ, zero, suc, _+_, _-_, _≤_}
-use native.Mathlib.Nat.{add-comm, add-sub-cancel-left}
+use Prim.Native.Nat.{ℕ, zero, suc, _+_, _≤_}
 use native.Mathlib.Omega.{arith}
 use mathlib.Core.Path.{_≡_, refl, sym, ap, _∙_}
 use mathlib.Core.Bool.{Bool, true, false, cond}
@@ -11,12 +10,12 @@ use lib.ListN.{length, drop, take}
 use Rattle.vocabulary.proofs.Bools.{true-or-false}
 use Rattle.vocabulary.specs.Those.{some}
 use Rattle.vocabulary.proofs.Those.{some-none}
-use Rattle.names.specs.Lines.{lineAt, lineOf, lineStart}
+use Rattle.names.specs.Lines.{lineSpan, lineFor, lineStart}
 use Rattle.names.specs.Name.{nameOf, noStretch, shown, stretchOf}
-use Rattle.names.specs.Part.{Part, namePart}
-use Rattle.names.specs.declared.Line.{Line}
+use Rattle.names.specs.Part.{Part, cut, namePart}
+use Rattle.names.specs.declared.Span.{Span}
 use Rattle.names.specs.declared.Stretch.{Stretch}
-use Rattle.names.proofs.Lines.{line-fits, lineOf-at}
+use Rattle.names.proofs.Lines.{line-fits, lineFor-at}
 
 some-length : (l : List ℕ) → (length l ≡ 0 → ⊥) → some l ≡ true
 some-length [] h = absurd (h refl)
@@ -28,22 +27,22 @@ none-length (x ∷ l) h = absurd (omega (arith, h))
 
 -- The lines as they were found.
 module _ (client house : List ℕ) (o : ℕ) where
-  module _ {own : Line} (e : own ≡ lineAt client o) where
+  module _ {own : Span} (e : own ≡ lineSpan client o) where
     pub shown-client : (own .length ≡ 0 → ⊥) → stretchOf 0 own ≡ shown client house o
     unfolding shown
-    shown-client h = rw (some-length (lineOf client o) (λ z. h (ap (λ (l : Line). l .length) e ∙ z)), e)
+    shown-client h = rw (some-length (lineFor client o) (λ z. h (ap (λ (l : Span). l .length) e ∙ z)), e)
 
-    module _ {line : Line} (empty : own .length ≡ 0) (f : line ≡ lineAt house o) where
-      own-none : some (lineOf client o) ≡ false
-      own-none = none-length (lineOf client o) (ap (λ (l : Line). l .length) (sym e) ∙ empty)
+    module _ {line : Span} (empty : own .length ≡ 0) (f : line ≡ lineSpan house o) where
+      own-none : some (lineFor client o) ≡ false
+      own-none = none-length (lineFor client o) (ap (λ (l : Span). l .length) (sym e) ∙ empty)
 
       pub shown-house : (line .length ≡ 0 → ⊥) → stretchOf 1 line ≡ shown client house o
       unfolding shown
-      shown-house h = rw (own-none, some-length (lineOf house o) (λ z. h (ap (λ (l : Line). l .length) f ∙ z)), f)
+      shown-house h = rw (own-none, some-length (lineFor house o) (λ z. h (ap (λ (l : Span). l .length) f ∙ z)), f)
 
       pub shown-none : line .length ≡ 0 → noStretch ≡ shown client house o
       unfolding shown
-      shown-none h = rw (own-none, none-length (lineOf house o) (ap (λ (l : Line). l .length) (sym f) ∙ h))
+      shown-none h = rw (own-none, none-length (lineFor house o) (ap (λ (l : Span). l .length) (sym f) ∙ h))
 
 -- ---- where the name lies
 
@@ -60,16 +59,16 @@ module _ (client house : List ℕ) (o : ℕ) where
       × (s .number ≡ cond (some name) 0 81)
 
   -- Whichever of the two lines are empty.
-  fit-by : (t u : Bool) → some (lineOf client o) ≡ t → some (lineOf house o) ≡ u
-      → Fit (cond t (stretchOf 0 (lineAt client o)) (cond u (stretchOf 1 (lineAt house o)) noStretch)) (cond t (lineOf client o) (lineOf house o))
+  fit-by : (t u : Bool) → some (lineFor client o) ≡ t → some (lineFor house o) ≡ u
+      → Fit (cond t (stretchOf 0 (lineSpan client o)) (cond u (stretchOf 1 (lineSpan house o)) noStretch)) (cond t (lineFor client o) (lineFor house o))
   unfolding Fit
-  fit-by true u e f = (lineOf-at client o, line-fits client o, rw e)
-  fit-by false true e f = (lineOf-at house o, line-fits house o, rw f)
+  fit-by true u e f = (lineFor-at client o, line-fits client o, rw e)
+  fit-by false true e f = (lineFor-at house o, line-fits house o, rw f)
   fit-by false false e f = (sym (some-none _ f), omega arith, rw f)
 
   shown-fit : Fit (shown client house o) (nameOf client house o)
   unfolding shown nameOf
-  shown-fit = fit-by (some (lineOf client o)) (some (lineOf house o)) refl refl
+  shown-fit = fit-by (some (lineFor client o)) (some (lineFor house o)) refl refl
 
   pub shown-lies : take (shown client house o .length) (drop (shown client house o .place) (textOf (shown client house o))) ≡ nameOf client house o
   unfolding Fit
@@ -87,16 +86,7 @@ cond-bytes : (client house : Part) (t : Bool) → (cond t client house) .bytes �
 cond-bytes client house true = refl
 cond-bytes client house false = refl
 
-part-equal : {block start start′ : ℕ} {bytes bytes′ : List ℕ} → start ≡ start′ → bytes ≡ bytes′
-    → _≡_ {A = Part} (record { block = block; start = start; bytes = bytes }) (record { block = block; start = start′; bytes = bytes′ })
-part-equal p q = rw (p, q)
-
--- The part that is cut where a stretch says, if that is the stretch shown.
-pub part-shown : (client house : Part) (o : ℕ) {s : Stretch} → s ≡ shown (client .bytes) (house .bytes) o
-    → _≡_ {A = Part}
-    (let text : Part = cond (eqb (s .text) 0) client house in
-    record { block = text .block; start = s .place + text .start; bytes = take (s .place + s .length - s .place) (drop (s .place) (text .bytes)) })
-    (namePart client house o)
-part-shown client house o e =
-    rw e (part-equal (add-comm _ _)
-    (rw (add-sub-cancel-left, cond-bytes client house _) (shown-lies (client .bytes) (house .bytes) o)))
+-- Cut where the stretch says that is shown, a text has the name's part.
+pub cut-shown : (client house : Part) (o : ℕ) {s : Stretch} → s ≡ shown (client .bytes) (house .bytes) o
+    → cut (cond (eqb (s .text) 0) client house) (s .place) (s .length) ≡ namePart client house o
+cut-shown client house o e = rw e (rw (cond-bytes client house _, shown-lies (client .bytes) (house .bytes) o))

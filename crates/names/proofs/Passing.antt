@@ -11,7 +11,8 @@ use lib.Dec.{eqb}
 use lib.ListN.{length, drop, take, getD, length-drop, take-append-drop, drop-of-length-le}
 use lib.Seq.{drop-cons, drop-drop, length-take-le}
 use Rattle.vocabulary.proofs.Bools.{true-or-false}
-use Rattle.names.specs.Scan.{breaks, byBreak, endFrom, least, past, pastFrom, upTo}
+use Rattle.line_numbers.specs.LineNumber.{ended}
+use Rattle.names.specs.Scan.{byBreak, endFrom, least, past, pastFrom, upTo}
 
 -- ---- bytes 10
 
@@ -26,6 +27,14 @@ byBreak-false b ends other f = rw f
 pub one-most : (b : ℕ) {r : ℕ} → r ≡ byBreak b 1 0 → r ≤ 1
 one-most b e =
     ⊎-elim (λ t. omega (arith, e, byBreak-true b 1 0 t)) (λ f. omega (arith, e, byBreak-false b 1 0 f)) (true-or-false (eqb b 10))
+
+ended-cons : (b : ℕ) (text : List ℕ) → ended (b ∷ text) ≡ byBreak b 1 0 + ended text
+unfolding ended byBreak
+ended-cons b text = by (eqb b 10)
+  where
+    by : (t : Bool) → cond t (suc (ended text)) (ended text) ≡ cond t 1 0 + ended text
+    by true = omega arith
+    by false = omega arith
 
 pub past-nil : (n : ℕ) → past [] n ≡ 0
 unfolding past
@@ -46,12 +55,13 @@ module _ (b : ℕ) (text : List ℕ) (n : ℕ) where
   past-other f = ap (λ (m : ℕ). suc (past text m)) (omega (arith, byBreak-false b 1 0 f))
 
 -- A part that has fewer bytes 10 than are sought is passed over whole.
-pub past-append : (xs ys : List ℕ) (n : ℕ) → breaks xs < n → past (xs ++ ys) n ≡ length xs + past ys (n - breaks xs)
-unfolding breaks past
+pub past-append : (xs ys : List ℕ) (n : ℕ) → ended xs < n → past (xs ++ ys) n ≡ length xs + past ys (n - ended xs)
+unfolding past ended
 past-append [] ys n h = rw (sub-zero, zero-add)
 past-append (b ∷ xs) ys zero h = absurd (omega (arith, h))
 past-append (b ∷ xs) ys (suc n) h =
-    rw (past-append xs ys (suc n - byBreak b 1 0) (omega (arith, h, one-most b refl)), suc-add, sub-add-eq)
+    rw
+    (past-append xs ys (suc n - byBreak b 1 0) (omega (arith, h, ended-cons b xs, one-most b refl)), suc-add, ended-cons b xs, sub-add-eq)
 
 -- ---- the first byte 10
 
@@ -147,16 +157,15 @@ block-length text at k h = rw add-sub-cancel-left (length-take-le k (drop at tex
 
 module _ (text : List ℕ) (at : ℕ) where
   -- Counted up to a place: a byte more, and all.
-  pub breaks-step : {r all : ℕ} (n : ℕ) → at < length text → r ≡ byBreak (getD text at 0) 1 0 → n + breaks (drop at text) ≡ all
-      → n + r + breaks (drop (at + 1) text) ≡ all
-  unfolding breaks
-  breaks-step {r} {all} n h e counted =
-      let step : breaks (drop at text) ≡ byBreak (getD text at 0) 1 0 + breaks (drop (at + 1) text) = rw (drop-cons text at 0 h, add-one) in
+  pub ended-step : {r all : ℕ} (n : ℕ) → at < length text → r ≡ byBreak (getD text at 0) 1 0 → n + ended (drop at text) ≡ all
+      → n + r + ended (drop (at + 1) text) ≡ all
+  ended-step {r} {all} n h e counted =
+      let step : ended (drop at text) ≡ byBreak (getD text at 0) 1 0 + ended (drop (at + 1) text) = rw (drop-cons text at 0 h, add-one) (ended-cons _ _) in
       omega (arith, step, e, counted)
 
-  pub breaks-length : {all : ℕ} (n : ℕ) → length text ≤ at → n + breaks (drop at text) ≡ all → n ≡ all
-  unfolding breaks
-  breaks-length n h counted = sym (add-zero n) ∙ rw (drop-of-length-le text h) at counted
+  pub ended-length : {all : ℕ} (n : ℕ) → length text ≤ at → n + ended (drop at text) ≡ all → n ≡ all
+  unfolding ended
+  ended-length n h counted = sym (add-zero n) ∙ rw (drop-of-length-le text h) at counted
 
   pub past-none : pastFrom text at 0 ≡ at
   past-none = rw (past-zero, add-zero)
@@ -171,7 +180,7 @@ module _ (text : List ℕ) (at : ℕ) where
   past-step (suc n) h k = rw (drop-cons text at 0 h, add-one) (omega arith)
 
   -- A block that has fewer is passed over whole.
-  pub past-block : {r : ℕ} (k n : ℕ) → at + k ≤ length text → r ≡ breaks (block text at k) → r < n
+  pub past-block : {r : ℕ} (k n : ℕ) → at + k ≤ length text → r ≡ ended (block text at k) → r < n
       → pastFrom text (at + k) (n - r) ≡ pastFrom text at n
   past-block k n h e few =
       let passed = past-append (block text at k) (drop (at + k) text) n (omega (arith, e, few)) in

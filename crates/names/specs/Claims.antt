@@ -6,22 +6,22 @@ use mathlib.Core.Path.{_≡_}
 use lib.Dec.{eqb}
 use lib.ListN.{length, take, drop}
 use Rattle.vocabulary.specs.Those.{member, some}
-use Rattle.names.specs.Lines.{lineOf, lines, lineStart}
+use Rattle.names.specs.Lines.{lineFor, lines, lineStart}
 use Rattle.names.specs.Name.{nameOf, shown}
 
 -- Lines joined by byte 10.
-unfoldable pub joined : List (List ℕ) → List ℕ
-joined [] = []
-joined (line ∷ []) = line
-joined (line ∷ next ∷ rest) = line ++ 10 ∷ joined (next ∷ rest)
+unfoldable pub joinedLines : List (List ℕ) → List ℕ
+joinedLines [] = []
+joinedLines (line ∷ []) = line
+joinedLines (line ∷ next ∷ rest) = line ++ 10 ∷ joinedLines (next ∷ rest)
 
 pub record LinesExact : Type 0 where
   -- The lines, joined by byte 10, give the text back,
-  pub joins : (text : List ℕ) → joined (lines text) ≡ text
+  pub joins : (text : List ℕ) → joinedLines (lines text) ≡ text
   -- and none of them has a byte 10: the text is parted at every byte 10 and nowhere else.
-  pub parts : (text : List ℕ) (o : ℕ) → member 10 (lineOf text o) ≡ false
+  pub parts : (text : List ℕ) (o : ℕ) → member 10 (lineFor text o) ≡ false
   -- What lies at a line's place, for as many bytes as the line has, is the line.
-  pub lies : (text : List ℕ) (o : ℕ) → take (length (lineOf text o)) (drop (lineStart text o) text) ≡ lineOf text o
+  pub lies : (text : List ℕ) (o : ℕ) → take (length (lineFor text o)) (drop (lineStart text o) text) ≡ lineFor text o
 
 pub record NameExact (client house : List ℕ) (o : ℕ) : Type 0 where
   -- What lies at the stretch that is told is the name,

@@ -4,7 +4,7 @@ use mathlib.Core.Bool.{cond}
 use mathlib.Core.List.{List, [], _∷_, _++_}
 use lib.Dec.{eqb}
 use lib.ListN.{length, getD, take}
-use Rattle.names.specs.declared.Line.{Line}
+use Rattle.names.specs.declared.Span.{Span}
 
 -- Lines, the first of them with a byte put before it. (A text has at least one line.)
 unfoldable pub longer : ℕ → List (List ℕ) → List (List ℕ)
@@ -18,22 +18,22 @@ lines [] = [] ∷ []
 lines (b ∷ text) = cond (eqb b 10) ([] ∷ lines text) (longer b (lines text))
 
 -- The line of a folder, in folder order from 0. A text that is too short has none for it: that is the empty line here, since C-11 treats both alike.
-unfoldable pub lineOf : List ℕ → ℕ → List ℕ
-lineOf text o = getD (lines text) o []
+unfoldable pub lineFor : List ℕ → ℕ → List ℕ
+lineFor text o = getD (lines text) o []
 
 -- Lines, each with the byte 10 that ends it.
-unfoldable pub ended : List (List ℕ) → List ℕ
-ended [] = []
-ended (line ∷ rest) = line ++ 10 ∷ ended rest
+unfoldable pub withEnds : List (List ℕ) → List ℕ
+withEnds [] = []
+withEnds (line ∷ rest) = line ++ 10 ∷ withEnds rest
 
 -- Where a folder's line begins: behind the lines before it. In a text that is too short: at its end.
 unfoldable pub lineStart : List ℕ → ℕ → ℕ
-lineStart text o = min (length (ended (take o (lines text)))) (length text)
+lineStart text o = min (length (withEnds (take o (lines text)))) (length text)
 
 -- Where a folder's line lies: its place in the text, and how many bytes it has.
-abbrev pub lineAt : List ℕ → ℕ → Line
-lineAt text o =
+abbrev pub lineSpan : List ℕ → ℕ → Span
+lineSpan text o =
     record {
       place = lineStart text o;
-      length = length (lineOf text o);
+      length = length (lineFor text o);
     }

@@ -3,24 +3,24 @@ use Prim.Native.Nat.{ℕ}
 use mathlib.Core.Bool.{cond}
 use mathlib.Core.List.{List}
 use Rattle.vocabulary.specs.Those.{some}
-use Rattle.names.specs.Lines.{lineAt, lineOf}
-use Rattle.names.specs.declared.Line.{Line}
+use Rattle.names.specs.Lines.{lineSpan, lineFor}
+use Rattle.names.specs.declared.Span.{Span}
 use Rattle.names.specs.declared.Name.{Name}
 use Rattle.names.specs.declared.Name.the-variants.{Client, House, Unnamed}
 use Rattle.names.specs.declared.Stretch.{Stretch}
 
 -- 'The name shown is the client's line if it has one that isn't empty, otherwise the house's line.'
 unfoldable pub nameOf : List ℕ → List ℕ → ℕ → List ℕ
-nameOf client house o = cond (some (lineOf client o)) (lineOf client o) (lineOf house o)
+nameOf client house o = cond (some (lineFor client o)) (lineFor client o) (lineFor house o)
 
--- A stretch of a text: 0, the text's number (0 for the client's, 1 for the house's), and where the line lies in it.
-abbrev pub stretchOf : ℕ → Line → Stretch
-stretchOf text line =
+-- A stretch of a text: 0, the text's number (0 for the client's, 1 for the house's), and where the name lies in it.
+abbrev pub stretchOf : ℕ → Span → Stretch
+stretchOf text span =
     record {
       number = 0;
       text = text;
-      place = line .place;
-      length = line .length;
+      place = span .place;
+      length = span .length;
     }
 
 -- '81, as an empty stretch.'
@@ -36,11 +36,11 @@ noStretch =
 -- 'The name comes back as the stretch of whichever text it was found in'; '81 if neither has one that isn't empty'.
 unfoldable pub shown : List ℕ → List ℕ → ℕ → Stretch
 shown client house o =
-    cond (some (lineOf client o)) (stretchOf 0 (lineAt client o))
-    (cond (some (lineOf house o)) (stretchOf 1 (lineAt house o)) noStretch)
+    cond (some (lineFor client o)) (stretchOf 0 (lineSpan client o))
+    (cond (some (lineFor house o)) (stretchOf 1 (lineSpan house o)) noStretch)
 
 -- The number and the values of each answer.
 abbrev pub nameAnswer : Name → Stretch
-nameAnswer (Client line) = stretchOf 0 line
-nameAnswer (House line) = stretchOf 1 line
+nameAnswer (Client span) = stretchOf 0 span
+nameAnswer (House span) = stretchOf 1 span
 nameAnswer Unnamed = noStretch

@@ -3,6 +3,7 @@ use Prim.Native.Nat.{ℕ, _+_}
 use mathlib.Core.Bool.{cond}
 use mathlib.Core.List.{List}
 use lib.Dec.{eqb}
+use lib.ListN.{drop, take}
 use denote.Ref.{RefT}
 use Rattle.names.specs.Name.{nameOf, shown}
 use Rattle.names.specs.declared.Stretch.{Stretch}
@@ -20,6 +21,15 @@ partOf slice =
       block = slice .ptr .0;
       start = slice .ptr .1;
       bytes = slice .now;
+    }
+
+-- Of bytes in memory, those from a place on.
+abbrev pub cut : Part → ℕ → ℕ → Part
+cut text place count =
+    record {
+      block = text .block;
+      start = text .start + place;
+      bytes = take count (drop place (text .bytes));
     }
 
 -- The name in whichever text it was found in: in that text's block, as many bytes behind the text's start as the stretch says. At 81 no byte, at

@@ -9,11 +9,6 @@ use lib.ListN.{drop, getD}
 unfoldable pub byBreak : ℕ → ℕ → ℕ → ℕ
 byBreak b ends other = cond (eqb b 10) ends other
 
--- How many bytes 10 there are.
-unfoldable pub breaks : List ℕ → ℕ
-breaks [] = 0
-breaks (b ∷ text) = byBreak b 1 0 + breaks text
-
 -- How many bytes there are up to the n-th byte 10 and with it, or in all.
 unfoldable pub past : List ℕ → ℕ → ℕ
 past [] n = 0

@@ -1,22 +1,24 @@
 // Names on the board (document 02, C-11): of two texts of folder names, the client's and the house's, the line that names a folder.
 use ids::FolderNo;
+ghost use Prim.Native.Nat.{_+_, _≤_};
 ghost use mathlib.Core.Path.{_≡_};
-ghost use Rattle.names.specs.Lines.{lineAt};
+ghost use lib.ListN.{length};
+ghost use Rattle.names.specs.Lines.{lineSpan};
 ghost use Rattle.names.specs.Name.{nameAnswer, shown, stretchOf};
-ghost use Rattle.names.specs.Part.{namePart, partOf};
+ghost use Rattle.names.specs.Part.{cut, namePart, partOf};
 
 mod scan; // a text passed over, in blocks
 
 // Where a line lies in a text: the place of its first byte, and how many bytes it has.
-pub struct Line {
+pub struct Span {
     pub place: usize,
     pub length: usize,
 }
 
 // The answers: the line of the client's text, or that of the house's, which is not empty; 81, there is none.
 pub enum Name {
-    Client(Line),
-    House(Line),
+    Client(Span),
+    House(Span),
     Unnamed,
 }
 
@@ -30,12 +32,12 @@ pub struct Stretch {
 }
 
 // Where a folder's line lies in a text. In a text that is too short it is empty, at the end.
-pub fn line_at(text: &[u8], folder: FolderNo) -> Line
-    ensures { λ r. ⌜ r ≡ lineAt (now (text .entry)) (folder .0) ⌝ }
+pub fn line_span(text: &[u8], folder: FolderNo) -> Span
+    ensures { λ r. ⌜ r ≡ lineSpan (now (text .entry)) (folder .0) ⌝ }
 {
     let start = scan::line_start(text, folder.0);
     let end = scan::line_end(text, start);
-    Line {
+    Span {
         place: start,
         length: end - start,
     }
@@ -45,15 +47,25 @@ pub fn line_at(text: &[u8], folder: FolderNo) -> Line
 pub fn find(client: &[u8], house: &[u8], folder: FolderNo) -> Name
     ensures { λ r. ⌜ nameAnswer r ≡ shown (now (client .entry)) (now (house .entry)) (folder .0) ⌝ }
 {
-    let own = line_at(client, folder);
+    let own = line_span(client, folder);
     if own.length != 0 {
         return Name::Client(own);
     }
-    let line = line_at(house, folder);
+    let line = line_span(house, folder);
     if line.length != 0 {
         return Name::House(line);
     }
     Name::Unnamed
+}
+
+// A line of a text, as a part of it.
+fn part<'a>(text: &'a [u8], span: Span) -> &'a [u8]
+    requires { ⌜ span .place + span .length ≤ length (now text) ⌝ }
+    ensures { λ r. ⌜ partOf r ≡ cut (partOf (text .entry)) (span .place) (span .length) ⌝ }
+{
+    let start = span.place;
+    let end = start + span.length;
+    &text[start..end]
 }
 
 // The name of a folder: a part of the client's or of the house's text, nothing copied. At 81 it is empty.
@@ -61,28 +73,20 @@ pub fn folder_name<'a>(client: &'a [u8], house: &'a [u8], folder: FolderNo) -> &
     ensures { λ r. ⌜ partOf r ≡ namePart (partOf (client .entry)) (partOf (house .entry)) (folder .0) ⌝ }
 {
     match find(client, house, folder) {
-        Name::Client(line) => {
-            let start = line.place;
-            let end = start + line.length;
-            &client[start..end]
-        }
-        Name::House(line) => {
-            let start = line.place;
-            let end = start + line.length;
-            &house[start..end]
-        }
+        Name::Client(span) => part(client, span),
+        Name::House(span) => part(house, span),
         Name::Unnamed => &client[0..0],
     }
 }
 
-fn of_text(text: u16, line: Line) -> Stretch
-    ensures { λ r. ⌜ r ≡ stretchOf text line ⌝ }
+fn of_text(text: u16, span: Span) -> Stretch
+    ensures { λ r. ⌜ r ≡ stretchOf text span ⌝ }
 {
     Stretch {
         number: 0,
         text: text,
-        place: line.place,
-        length: line.length,
+        place: span.place,
+        length: span.length,
     }
 }
 
@@ -91,8 +95,8 @@ pub fn in_numbers(name: Name) -> Stretch
     ensures { λ r. ⌜ r ≡ nameAnswer name ⌝ }
 {
     match name {
-        Name::Client(line) => of_text(0, line),
-        Name::House(line) => of_text(1, line),
+        Name::Client(span) => of_text(0, span),
+        Name::House(span) => of_text(1, span),
         Name::Unnamed => Stretch {
             number: 81,
             text: 0,

@@ -2,7 +2,8 @@
 ghost use Prim.Native.Nat.{_≤_, min};
 ghost use mathlib.Core.Path.{_≡_};
 ghost use lib.ListN.{length};
-ghost use Rattle.names.specs.Scan.{breaks, byBreak, endFrom, least, past, pastFrom};
+ghost use Rattle.line_numbers.specs.LineNumber.{ended};
+ghost use Rattle.names.specs.Scan.{byBreak, endFrom, least, past, pastFrom};
 
 // ---- a byte
 
@@ -31,7 +32,7 @@ fn lesser(a: u8, b: u8) -> u8
 // Invariant: it has `n` of them before i.
 fn breaks_in(block: &[u8]) -> u8
     requires { ⌜ length (now block) ≡ 64 ⌝ }
-    ensures { λ r. ⌜ r ≡ breaks (now (block .entry)) ⌝ }
+    ensures { λ r. ⌜ r ≡ ended (now (block .entry)) ⌝ }
 {
     let mut n: u8 = 0;
     let mut i = 0;

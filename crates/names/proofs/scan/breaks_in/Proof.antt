@@ -1,11 +1,11 @@
-use Rattle.names.proofs.Passing.{breaks-length, breaks-step, one-most}
+use Rattle.names.proofs.Passing.{ended-length, ended-step, one-most}
 use lib.Seq.{drop-length}
 use native.Mathlib.Nat.{zero-add}
-use Rattle.names.proofs.Passing.{breaks-step, one-most}
+use Rattle.names.proofs.Passing.{ended-step, one-most}
 use Prim.Native.Nat.{_+_, _-_, _≤_}
 use mathlib.Core.Path.{_≡_, refl, sym, ap, _∙_}
 use lib.ListN.{length, drop}
-use Rattle.names.specs.Scan.{breaks}
+use Rattle.line_numbers.specs.LineNumber.{ended}
 use native.Mathlib.Omega.{arith}
 use borrow.Author.Needs.{needs}
 use Rattle.names.proofs.scan.breaks_in.Statement.{statement}
@@ -16,7 +16,7 @@ use Rattle.names.proofs.scan.by_break.Reads as by-break-reads
 
 abbrev Inv-loop : tie.InvT-loop
 Inv-loop block n₀ i₀ n i =
-    (i ≤ 64) × (n ≤ i) × (n + breaks (drop i block) ≡ breaks block)
+    (i ≤ 64) × (n ≤ i) × (n + ended (drop i block) ≡ ended block)
 
 abbrev μ-loop : tie.MeasureT-loop
 μ-loop block n₀ i₀ n i = 64 - i
@@ -50,12 +50,12 @@ loop-less c = search needs
 -- src/scan.rt:40:5
 loop-again : tie.Need-loop-again Inv-loop μ-loop
 loop-again c =
-    (search needs, omega (arith, one-most _ (c .by-break .ensures), c .before .before .before .loop .inv .1), breaks-step _ (c .before .before .before .loop .i) _ (omega (arith, c .before .before .loop-test .taken, c .before .before .before .before .before .pre)) (c .by-break .ensures) (c .before .before .before .loop .inv .2))
+    (search needs, omega (arith, one-most _ (c .by-break .ensures), c .before .before .before .loop .inv .1), ended-step _ (c .before .before .before .loop .i) _ (omega (arith, c .before .before .loop-test .taken, c .before .before .before .before .before .pre)) (c .by-break .ensures) (c .before .before .before .loop .inv .2))
 
 -- src/scan.rt:34:1
 returns : tie.Need-returns Inv-loop μ-loop
 returns c =
-    breaks-length _ (c .before .loop .i) _ (omega (arith, c .loop-test .left, c .before .before .before .pre)) (c .before .loop .inv .2)
+    ended-length _ (c .before .loop .i) _ (omega (arith, c .loop-test .left, c .before .before .before .pre)) (c .before .loop .inv .2)
 
 pub breaks-in-spec : {M : Type 1} → statement M
 breaks-in-spec =

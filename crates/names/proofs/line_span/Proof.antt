@@ -1,10 +1,10 @@
 use Rattle.names.proofs.Lines.{line-measured, past-most}
 use native.Mathlib.Omega.{arith}
 use borrow.Author.Needs.{needs}
-use Rattle.names.proofs.line_at.Statement.{statement}
-use Rattle.names.proofs.line_at.Tie as tie
-use Rattle.names.proofs.line_at.Reads as reads
-use Rattle.names.proofs.line_at.Lts as lts
+use Rattle.names.proofs.line_span.Statement.{statement}
+use Rattle.names.proofs.line_span.Tie as tie
+use Rattle.names.proofs.line_span.Reads as reads
+use Rattle.names.proofs.line_span.Lts as lts
 use Rattle.names.proofs.scan.line_end.Reads as line-end-reads
 use Rattle.names.proofs.scan.line_start.Reads as line-start-reads
 
@@ -26,5 +26,5 @@ returns : tie.Need-returns
 returns c =
     line-measured _ _ (c .before .line-start .ensures) (c .line-end .ensures)
 
-pub line-at-spec : {M : Type 1} → statement M
-line-at-spec = tie.close (tie.spec line-start-requires line-end-requires sub-t5 returns)
+pub line-span-spec : {M : Type 1} → statement M
+line-span-spec = tie.close (tie.spec line-start-requires line-end-requires sub-t5 returns)
