@@ -1,16 +1,14 @@
 -- Laws of the name that is shown: what two lines say, and where it lies.
-use Prim.Native.Nat.{ℕ, zero, suc, _+_, _≤_}
+use Prim.Native.Nat.{ℕ, _+_, _≤_}
 use native.Mathlib.Omega.{arith}
 use mathlib.Core.Path.{_≡_, refl, sym, ap, _∙_}
 use mathlib.Core.Bool.{Bool, true, false, cond}
-use mathlib.Core.Logic.{⊎-elim}
 use mathlib.Core.List.{List, [], _∷_}
 use lib.Dec.{eqb}
 use lib.ListN.{length, drop, take}
-use Rattle.vocabulary.proofs.Bools.{true-or-false}
 use Rattle.vocabulary.specs.Those.{some}
 use Rattle.vocabulary.proofs.Those.{some-none}
-use Rattle.names.specs.Lines.{lineSpan, lineFor, lineStart}
+use Rattle.names.specs.Lines.{lineSpan, lineFor}
 use Rattle.names.specs.Name.{nameOf, noStretch, shown, stretchOf}
 use Rattle.names.specs.Part.{Part, cut, namePart}
 use Rattle.names.specs.declared.Span.{Span}

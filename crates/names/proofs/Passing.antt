@@ -1,5 +1,5 @@
 -- Laws of passing over a text, byte by byte and in blocks.
-use Prim.Native.Nat.{ℕ, zero, suc, _+_, _-_, _≤_, _<_, min}
+use Prim.Native.Nat.{ℕ, zero, suc, _+_, _-_, _≤_, _<_}
 use native.Mathlib.Numerals.{add-one}
 use native.Mathlib.Nat.{zero-add, add-zero, suc-add, sub-zero, sub-add-eq, add-assoc, add-sub-cancel-left, min-eq-left, min-eq-right}
 use native.Mathlib.Omega.{arith}

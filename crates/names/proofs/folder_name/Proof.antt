@@ -1,65 +1,49 @@
-use Rattle.names.proofs.Names.{cut-shown, stretch-fits}
-use Rattle.names.specs.Name.{noStretch, stretchOf}
-use mathlib.Core.Path.{_∙_}
+-- `folder_name` meets its contract: the text that the name was found in, cut where it lies.
 use native.Mathlib.Nat.{add-comm}
-use native.Mathlib.Omega.{arith}
+use mathlib.Core.Path.{_∙_}
+use Rattle.names.specs.Name.{noStretch, stretchOf}
+use Rattle.names.proofs.Names.{cut-shown, stretch-fits}
 use borrow.Author.Needs.{needs}
 use Rattle.names.proofs.folder_name.Statement.{statement}
 use Rattle.names.proofs.folder_name.Tie as tie
-use Rattle.names.proofs.folder_name.Reads as reads
-use Rattle.names.proofs.folder_name.Lts as lts
-use Rattle.names.proofs.find.Reads as find-reads
-use Rattle.names.proofs.part.Reads as part-reads
 
--- src/lib.rt:75:11
 find-requires : tie.Need-find-requires
 find-requires c κs = search needs
 
--- src/lib.rt:76:22
 enum-known-span : tie.Need-enum-known-span
 enum-known-span c = search needs
 
--- src/lib.rt:76:31
 part-requires : tie.Need-part-requires
 part-requires c κs =
     stretch-fits _ _ _ {s = stretchOf 0 (c .before .span .given .0 .0)} (rw (c .before .span .given .1) at (c .before .before .before .find .ensures))
 
--- src/lib.rt:77:21
 enum-known-span-2 : tie.Need-enum-known-span-2
 enum-known-span-2 c = search needs
 
--- src/lib.rt:77:30
 part-requires-2 : tie.Need-part-requires-2
 part-requires-2 c κs =
     stretch-fits _ _ _ {s = stretchOf 1 (c .before .span2 .given .0 .0)} (rw (c .before .span2 .given .1) at (c .before .before .before .find .ensures))
 
--- src/lib.rt:78:26
 enum-told : tie.Need-enum-told
 enum-told c = search needs
 
--- src/lib.rt:78:26
 sub-result : tie.Need-sub-result
 sub-result c = search needs
 
--- src/lib.rt:78:26
 part-result-start : tie.Need-part-result-start
 part-result-start c = search needs
 
--- src/lib.rt:78:26
 part-result-end : tie.Need-part-result-end
 part-result-end c = search needs
 
--- src/lib.rt:72:1
 returns : tie.Need-returns
 returns c =
     c .part .ensures ∙ cut-shown _ _ _ {s = stretchOf 0 (c .before .before .span .given .0 .0)} (rw (c .before .before .span .given .1) at (c .before .before .before .before .find .ensures))
 
--- src/lib.rt:72:1
 returns-2 : tie.Need-returns-2
 returns-2 c =
     c .part2 .ensures ∙ cut-shown _ _ _ {s = stretchOf 1 (c .before .before .span2 .given .0 .0)} (rw (c .before .before .span2 .given .1) at (c .before .before .before .before .find .ensures))
 
--- src/lib.rt:72:1
 returns-3 : tie.Need-returns-3
 returns-3 c =
     rw (add-comm 0 (c .before .before .before .before .before .before .args .client .ptr .1)) (cut-shown _ _ _ {s = noStretch} (rw (c .before .enum-told .given .1) at (c .before .before .before .find .ensures)))

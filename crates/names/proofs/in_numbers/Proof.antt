@@ -1,42 +1,31 @@
-use native.Mathlib.Omega.{arith}
+-- `in_numbers` meets its contract: each answer's number and values.
 use borrow.Author.Needs.{needs}
 use Rattle.names.proofs.in_numbers.Statement.{statement}
 use Rattle.names.proofs.in_numbers.Tie as tie
-use Rattle.names.proofs.in_numbers.Reads as reads
-use Rattle.names.proofs.in_numbers.Lts as lts
-use Rattle.names.proofs.of_text.Reads as of-text-reads
 
--- src/lib.rt:93:22
 enum-known-name : tie.Need-enum-known-name
 enum-known-name c = search needs
 
--- src/lib.rt:93:31
 of-text-requires : tie.Need-of-text-requires
 of-text-requires c κs = search needs
 
--- src/lib.rt:94:21
 enum-known-name-2 : tie.Need-enum-known-name-2
 enum-known-name-2 c = search needs
 
--- src/lib.rt:94:30
 of-text-requires-2 : tie.Need-of-text-requires-2
 of-text-requires-2 c κs = search needs
 
--- src/lib.rt:95:26
 enum-told : tie.Need-enum-told
 enum-told c = search needs
 
--- src/lib.rt:89:1
 returns : tie.Need-returns
 returns c =
     rw (c .of-text .ensures, c .before .before .name .given .1)
 
--- src/lib.rt:89:1
 returns-2 : tie.Need-returns-2
 returns-2 c =
     rw (c .of-text2 .ensures, c .before .before .name2 .given .1)
 
--- src/lib.rt:89:1
 returns-3 : tie.Need-returns-3
 returns-3 c =
     rw (c .enum-told .given .1)

@@ -1,28 +1,21 @@
+-- `part` meets its contract: the part lies as far behind the text's start as the line does.
 use native.Mathlib.Nat.{add-comm, add-sub-cancel-left}
-use native.Mathlib.Omega.{arith}
 use borrow.Author.Needs.{needs}
 use Rattle.names.proofs.part.Statement.{statement}
 use Rattle.names.proofs.part.Tie as tie
-use Rattle.names.proofs.part.Reads as reads
-use Rattle.names.proofs.part.Lts as lts
 
--- src/lib.rt:67:15
 add-end : tie.Need-add-end
 add-end c = search needs
 
--- src/lib.rt:68:5
 sub-result : tie.Need-sub-result
 sub-result c = search needs
 
--- src/lib.rt:68:5
 part-result-start : tie.Need-part-result-start
 part-result-start c = search needs
 
--- src/lib.rt:68:5
 part-result-end : tie.Need-part-result-end
 part-result-end c = search needs
 
--- src/lib.rt:62:1
 returns : tie.Need-returns
 returns c =
     rw (add-sub-cancel-left, add-comm (c .before .before .args .span .place) (c .before .before .args .text .ptr .1))

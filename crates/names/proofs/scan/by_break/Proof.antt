@@ -1,19 +1,14 @@
+-- `by_break` meets its contract.
 use Rattle.names.specs.Scan.{byBreak}
 use borrow.Author.Tests.{eq-eqb, ne-eqb}
-use native.Mathlib.Omega.{arith}
-use borrow.Author.Needs.{needs}
 use Rattle.names.proofs.scan.by_break.Statement.{statement}
 use Rattle.names.proofs.scan.by_break.Tie as tie
-use Rattle.names.proofs.scan.by_break.Reads as reads
-use Rattle.names.proofs.scan.by_break.Lts as lts
 
--- src/scan.rt:16:9
 returns : tie.Need-returns
 unfolding byBreak
 returns c =
     simp (eq-eqb _ _ (c .if1 .taken))
 
--- src/scan.rt:12:1
 returns-2 : tie.Need-returns-2
 unfolding byBreak
 returns-2 c =

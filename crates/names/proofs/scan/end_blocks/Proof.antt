@@ -1,17 +1,13 @@
-use lib.Dec.{lit≤}
-use Rattle.names.proofs.Passing.{end-block-found, end-block-passed}
-use Prim.Native.Nat.{_+_, _-_, _≤_}
-use mathlib.Core.Path.{_≡_, refl, sym, ap, _∙_}
+-- `end_blocks` meets its contract. The invariant: from i on, the first byte 10 is the same.
+use Prim.Native.Nat.{_-_, _≤_}
+use native.Mathlib.Omega.{arith}
+use mathlib.Core.Path.{_≡_, _∙_}
 use lib.ListN.{length}
 use Rattle.names.specs.Scan.{endFrom}
-use native.Mathlib.Omega.{arith}
+use Rattle.names.proofs.Passing.{end-block-found, end-block-passed}
 use borrow.Author.Needs.{needs}
 use Rattle.names.proofs.scan.end_blocks.Statement.{statement}
 use Rattle.names.proofs.scan.end_blocks.Tie as tie
-use Rattle.names.proofs.scan.end_blocks.Reads as reads
-use Rattle.names.proofs.scan.end_blocks.Lts as lts
-use Rattle.names.proofs.scan.end_bytes.Reads as end-bytes-reads
-use Rattle.names.proofs.scan.first_in.Reads as first-in-reads
 
 abbrev Inv-loop : tie.InvT-loop
 Inv-loop text at i₀ i =
@@ -20,65 +16,50 @@ Inv-loop text at i₀ i =
 abbrev μ-loop : tie.MeasureT-loop
 μ-loop text at i₀ i = length text - i
 
--- src/scan.rt:131:5
 loop-holds : tie.Need-loop-holds Inv-loop μ-loop
 loop-holds c = search needs
 
--- src/scan.rt:131:17
 sub-loop : tie.Need-sub-loop Inv-loop μ-loop
 sub-loop c = search needs
 
--- src/scan.rt:132:39
 add-first-in : tie.Need-add-first-in Inv-loop μ-loop
 add-first-in c = search needs
 
--- src/scan.rt:132:30
 sub-first-in : tie.Need-sub-first-in Inv-loop μ-loop
 sub-first-in c = search needs
 
--- src/scan.rt:132:30
 part-first-in-start : tie.Need-part-first-in-start Inv-loop μ-loop
 part-first-in-start c = search needs
 
--- src/scan.rt:132:30
 part-first-in-end : tie.Need-part-first-in-end Inv-loop μ-loop
 part-first-in-end c = search needs
 
--- src/scan.rt:132:13
 first-in-requires : tie.Need-first-in-requires Inv-loop μ-loop
 first-in-requires c κs = search needs
 
--- src/scan.rt:134:24
 cast-result : tie.Need-cast-result Inv-loop μ-loop
 cast-result c = search needs
 
--- src/scan.rt:134:20
 add-result : tie.Need-add-result Inv-loop μ-loop
 add-result c = search needs
 
--- src/scan.rt:134:13
 returns : tie.Need-returns Inv-loop μ-loop
 returns c =
     end-block-found _ _ 64 (omega (arith, c .before .before .before .loop-test .taken, c .before .before .before .before .loop .inv .0)) (omega arith) (c .before .first-in .ensures) (c .if1 .taken) ∙ c .before .before .before .before .loop .inv .1
 
--- src/scan.rt:136:9
 add-i : tie.Need-add-i Inv-loop μ-loop
 add-i c = search needs
 
--- src/scan.rt:131:5
 loop-less : tie.Need-loop-less Inv-loop μ-loop
 loop-less c = search needs
 
--- src/scan.rt:131:5
 loop-again : tie.Need-loop-again Inv-loop μ-loop
 loop-again c =
     (search needs, end-block-passed _ (c .before .before .before .before .loop .i) 64 (omega (arith, c .before .before .before .loop-test .taken, c .before .before .before .before .loop .inv .0)) (omega arith) (c .before .first-in .ensures) (c .if1 .left) ∙ c .before .before .before .before .loop .inv .1)
 
--- src/scan.rt:138:5
 end-bytes-requires : tie.Need-end-bytes-requires Inv-loop μ-loop
 end-bytes-requires c κs = search needs
 
--- src/scan.rt:126:1
 returns-2 : tie.Need-returns-2 Inv-loop μ-loop
 returns-2 c =
     c .end-bytes .ensures ∙ c .before .before .loop .inv .1

@@ -1,15 +1,13 @@
-use borrow.Author.Tests.{eq-eqb, ne-eqb}
-use Rattle.names.proofs.Passing.{end-here, end-step, end-length}
-use Prim.Native.Nat.{_+_, _-_, _≤_}
-use mathlib.Core.Path.{_≡_, refl, sym, ap, _∙_}
-use lib.ListN.{length, drop}
+-- `end_bytes` meets its contract. The invariant: from i on, the first byte 10 is the same.
+use Prim.Native.Nat.{_-_, _≤_}
+use mathlib.Core.Path.{_≡_, sym, _∙_}
+use lib.ListN.{length}
 use Rattle.names.specs.Scan.{endFrom}
-use native.Mathlib.Omega.{arith}
+use Rattle.names.proofs.Passing.{end-here, end-step, end-length}
+use borrow.Author.Tests.{eq-eqb, ne-eqb}
 use borrow.Author.Needs.{needs}
 use Rattle.names.proofs.scan.end_bytes.Statement.{statement}
 use Rattle.names.proofs.scan.end_bytes.Tie as tie
-use Rattle.names.proofs.scan.end_bytes.Reads as reads
-use Rattle.names.proofs.scan.end_bytes.Lts as lts
 
 abbrev Inv-loop : tie.InvT-loop
 Inv-loop text at i₀ i =
@@ -18,33 +16,26 @@ Inv-loop text at i₀ i =
 abbrev μ-loop : tie.MeasureT-loop
 μ-loop text at i₀ i = length text - i
 
--- src/scan.rt:115:5
 loop-holds : tie.Need-loop-holds Inv-loop μ-loop
 loop-holds c = search needs
 
--- src/scan.rt:116:12
 shared-slice-read-if1 : tie.Need-shared-slice-read-if1 Inv-loop μ-loop
 shared-slice-read-if1 c = search needs
 
--- src/scan.rt:117:13
 returns : tie.Need-returns Inv-loop μ-loop
 returns c =
     sym (end-here _ _ (c .before .before .loop-test .taken) (eq-eqb _ _ (c .if1 .taken))) ∙ c .before .before .before .loop .inv .1
 
--- src/scan.rt:119:9
 add-i : tie.Need-add-i Inv-loop μ-loop
 add-i c = search needs
 
--- src/scan.rt:115:5
 loop-less : tie.Need-loop-less Inv-loop μ-loop
 loop-less c = search needs
 
--- src/scan.rt:115:5
 loop-again : tie.Need-loop-again Inv-loop μ-loop
 loop-again c =
     (search needs, sym (end-step _ _ (c .before .before .loop-test .taken) (ne-eqb _ _ (c .if1 .left))) ∙ c .before .before .before .loop .inv .1)
 
--- src/scan.rt:110:1
 returns-2 : tie.Need-returns-2 Inv-loop μ-loop
 returns-2 c =
     sym (end-length _ _ (c .loop-test .left)) ∙ c .before .loop .inv .1

@@ -1,17 +1,14 @@
+-- `line_start` meets its contract. The invariant: from i on, `left` bytes 10 lead to the same place.
+use Prim.Native.Nat.{_-_, _≤_}
 use native.Mathlib.Nat.{zero-add}
-use Rattle.names.proofs.Passing.{past-zero, past-block}
-use Prim.Native.Nat.{_+_, _-_, _≤_}
-use mathlib.Core.Path.{_≡_, refl, sym, ap, _∙_}
+use native.Mathlib.Omega.{arith}
+use mathlib.Core.Path.{_≡_, sym, _∙_}
 use lib.ListN.{length}
 use Rattle.names.specs.Scan.{past, pastFrom}
-use native.Mathlib.Omega.{arith}
+use Rattle.names.proofs.Passing.{past-zero, past-block}
 use borrow.Author.Needs.{needs}
 use Rattle.names.proofs.scan.line_start.Statement.{statement}
 use Rattle.names.proofs.scan.line_start.Tie as tie
-use Rattle.names.proofs.scan.line_start.Reads as reads
-use Rattle.names.proofs.scan.line_start.Lts as lts
-use Rattle.names.proofs.scan.breaks_in.Reads as breaks-in-reads
-use Rattle.names.proofs.scan.past_bytes.Reads as past-bytes-reads
 
 abbrev Inv-loop : tie.InvT-loop
 Inv-loop text n left₀ i₀ left i =
@@ -20,75 +17,58 @@ Inv-loop text n left₀ i₀ left i =
 abbrev μ-loop : tie.MeasureT-loop
 μ-loop text n left₀ i₀ left i = length text - i
 
--- src/scan.rt:91:9
 returns : tie.Need-returns Inv-loop μ-loop
 returns c =
     rw (c .if1 .taken) (sym (past-zero _))
 
--- src/scan.rt:95:5
 loop-holds : tie.Need-loop-holds Inv-loop μ-loop
 loop-holds c =
     (search needs, zero-add _)
 
--- src/scan.rt:95:17
 sub-loop : tie.Need-sub-loop Inv-loop μ-loop
 sub-loop c = search needs
 
--- src/scan.rt:96:39
 add-breaks-in : tie.Need-add-breaks-in Inv-loop μ-loop
 add-breaks-in c = search needs
 
--- src/scan.rt:96:30
 sub-breaks-in : tie.Need-sub-breaks-in Inv-loop μ-loop
 sub-breaks-in c = search needs
 
--- src/scan.rt:96:30
 part-breaks-in-start : tie.Need-part-breaks-in-start Inv-loop μ-loop
 part-breaks-in-start c = search needs
 
--- src/scan.rt:96:30
 part-breaks-in-end : tie.Need-part-breaks-in-end Inv-loop μ-loop
 part-breaks-in-end c = search needs
 
--- src/scan.rt:96:20
 breaks-in-requires : tie.Need-breaks-in-requires Inv-loop μ-loop
 breaks-in-requires c κs = search needs
 
--- src/scan.rt:96:20
 cast-here : tie.Need-cast-here Inv-loop μ-loop
 cast-here c = search needs
 
--- src/scan.rt:98:13
 past-bytes-requires : tie.Need-past-bytes-requires Inv-loop μ-loop
 past-bytes-requires c κs = search needs
 
--- src/scan.rt:98:13
 returns-2 : tie.Need-returns-2 Inv-loop μ-loop
 returns-2 c =
     c .past-bytes .ensures ∙ c .before .before .before .before .before .loop .inv .1
 
--- src/scan.rt:100:16
 sub-left : tie.Need-sub-left Inv-loop μ-loop
 sub-left c = search needs
 
--- src/scan.rt:101:9
 add-i : tie.Need-add-i Inv-loop μ-loop
 add-i c = search needs
 
--- src/scan.rt:95:5
 loop-less : tie.Need-loop-less Inv-loop μ-loop
 loop-less c = search needs
 
--- src/scan.rt:95:5
 loop-again : tie.Need-loop-again Inv-loop μ-loop
 loop-again c =
     (search needs, past-block _ (c .before .before .before .before .loop .i) 64 _ (omega (arith, c .before .before .before .loop-test .taken, c .before .before .before .before .loop .inv .0)) (c .before .breaks-in .ensures) (c .if2 .left) ∙ c .before .before .before .before .loop .inv .1)
 
--- src/scan.rt:103:5
 past-bytes-requires-2 : tie.Need-past-bytes-requires-2 Inv-loop μ-loop
 past-bytes-requires-2 c κs = search needs
 
--- src/scan.rt:87:1
 returns-3 : tie.Need-returns-3 Inv-loop μ-loop
 returns-3 c =
     c .past-bytes2 .ensures ∙ c .before .before .loop .inv .1
