@@ -1,5 +1,6 @@
 -- Laws of the name that is shown: what two lines say, and where it lies.
 use Prim.Native.Nat.{ℕ, _+_, _≤_}
+use native.Mathlib.Nat.{add-comm}
 use native.Mathlib.Omega.{arith}
 use mathlib.Core.Path.{_≡_, refl, sym, ap, _∙_}
 use mathlib.Core.Bool.{Bool, true, false, cond}
@@ -23,24 +24,30 @@ none-length : (l : List ℕ) → length l ≡ 0 → some l ≡ false
 none-length [] h = refl
 none-length (x ∷ l) h = absurd (omega (arith, h))
 
--- The lines as they were found.
+-- Whichever of the two lines are empty.
 module _ (client house : List ℕ) (o : ℕ) where
+  shown-by : (t u : Bool) → some (lineFor client o) ≡ t → some (lineFor house o) ≡ u
+      → cond t (stretchOf 0 (lineSpan client o)) (cond u (stretchOf 1 (lineSpan house o)) noStretch) ≡ shown client house o
+  unfolding shown
+  shown-by t u e f = rw (← e, ← f)
+
+  -- The lines as they were found.
   module _ {own : Span} (e : own ≡ lineSpan client o) where
     pub shown-client : (own .length ≡ 0 → ⊥) → stretchOf 0 own ≡ shown client house o
-    unfolding shown
-    shown-client h = rw (some-length (lineFor client o) (λ z. h (ap (λ (l : Span). l .length) e ∙ z)), e)
+    shown-client h =
+        ap (stretchOf 0) e
+        ∙ shown-by true (some (lineFor house o)) (some-length (lineFor client o) (λ z. h (ap (λ (l : Span). l .length) e ∙ z))) refl
 
     module _ {line : Span} (empty : own .length ≡ 0) (f : line ≡ lineSpan house o) where
       own-none : some (lineFor client o) ≡ false
       own-none = none-length (lineFor client o) (ap (λ (l : Span). l .length) (sym e) ∙ empty)
 
       pub shown-house : (line .length ≡ 0 → ⊥) → stretchOf 1 line ≡ shown client house o
-      unfolding shown
-      shown-house h = rw (own-none, some-length (lineFor house o) (λ z. h (ap (λ (l : Span). l .length) f ∙ z)), f)
+      shown-house h =
+          ap (stretchOf 1) f ∙ shown-by false true own-none (some-length (lineFor house o) (λ z. h (ap (λ (l : Span). l .length) f ∙ z)))
 
       pub shown-none : line .length ≡ 0 → noStretch ≡ shown client house o
-      unfolding shown
-      shown-none h = rw (own-none, none-length (lineFor house o) (ap (λ (l : Span). l .length) (sym f) ∙ h))
+      shown-none h = shown-by false false own-none (none-length (lineFor house o) (ap (λ (l : Span). l .length) (sym f) ∙ h))
 
 -- ---- where the name lies
 
@@ -88,3 +95,7 @@ cond-bytes client house false = refl
 pub cut-shown : (client house : Part) (o : ℕ) {s : Stretch} → s ≡ shown (client .bytes) (house .bytes) o
     → cut (cond (eqb (s .text) 0) client house) (s .place) (s .length) ≡ namePart client house o
 cut-shown client house o e = rw e (rw (cond-bytes client house _, shown-lies (client .bytes) (house .bytes) o))
+
+-- No byte, as the code cuts it.
+pub cut-none : (text : Part) → _≡_ {A = Part} (record { block = text .block; start = 0 + text .start; bytes = [] }) (cut text 0 0)
+cut-none text = rw (add-comm 0 (text .start))

@@ -1,8 +1,8 @@
 -- `folder_name` meets its contract: the text that the name was found in, cut where it lies.
-use native.Mathlib.Nat.{add-comm}
 use mathlib.Core.Path.{_∙_}
 use Rattle.names.specs.Name.{noStretch, stretchOf}
-use Rattle.names.proofs.Names.{cut-shown, stretch-fits}
+use Rattle.names.specs.Part.{partOf}
+use Rattle.names.proofs.Names.{cut-none, cut-shown, stretch-fits}
 use borrow.Author.Needs.{needs}
 use Rattle.names.proofs.folder_name.Statement.{statement}
 use Rattle.names.proofs.folder_name.Tie as tie
@@ -46,7 +46,7 @@ returns-2 c =
 
 returns-3 : tie.Need-returns-3
 returns-3 c =
-    rw (add-comm 0 (c .before .before .before .before .before .before .args .client .ptr .1)) (cut-shown _ _ _ {s = noStretch} (rw (c .before .enum-told .given .1) at (c .before .before .before .find .ensures)))
+    cut-none (partOf (c .before .before .before .before .before .before .args .client)) ∙ cut-shown _ _ _ {s = noStretch} (rw (c .before .enum-told .given .1) at (c .before .before .before .find .ensures))
 
 pub folder-name-spec : {M : Type 1} → statement M
 folder-name-spec =
