@@ -7,7 +7,7 @@ use log_writer::Tail;
 use names::Stretch;
 ghost use mathlib.Core.Path.{_≡_};
 ghost use Rattle.audit_log.specs.Reader.{checked, stepAt};
-ghost use Rattle.names.specs.Name.{shown};
+ghost use Rattle.names.specs.Name.{nameShown};
 ghost use Rattle.packing.specs.CopyOutcome.{packs};
 ghost use Rattle.policy.specs.Outcome.{outcome};
 ghost use Rattle.policy.specs.Session.{request};
@@ -170,7 +170,7 @@ pub extern "C" fn hc_number_read(log: &[u8], place: usize) -> HcNumber
 // The name shown for a folder, as a stretch of the client's or of the house's text.
 #[no_mangle]
 pub extern "C" fn hc_folder_name(client: &[u8], house: &[u8], folder: u16) -> Stretch
-    ensures { λ r. ⌜ r ≡ shown (now (client .entry)) (now (house .entry)) folder ⌝ }
+    ensures { λ r. ⌜ r ≡ nameShown (now (client .entry)) (now (house .entry)) folder ⌝ }
 {
     names::in_numbers(names::find(client, house, FolderNo(folder)))
 }

@@ -12,11 +12,12 @@ use lib.Seq.{length-take-le}
 use borrow.Author.Tests.{eqb-true, eqb-false, ne-eqb}
 use Rattle.vocabulary.proofs.Bools.{true-or-false}
 use Rattle.vocabulary.specs.Those.{member}
+use Rattle.line_numbers.specs.LineNumber.{ended}
 use Rattle.names.specs.Lines.{withEnds, lineSpan, lineFor, lines, lineStart, longer}
 use Rattle.names.specs.Claims.{joinedLines}
 use Rattle.names.specs.declared.Span.{Span}
-use Rattle.names.specs.Scan.{endFrom, past, upTo}
-use Rattle.names.proofs.Passing.{past-ends, past-nil, past-other, past-zero, upTo-here, upTo-later, upTo-most}
+use Rattle.names.specs.Scan.{endFrom, past, beforeBreak}
+use Rattle.names.proofs.Passing.{ended-ends, ended-other, past-ends, past-nil, past-other, past-zero, beforeBreak-here, beforeBreak-later, beforeBreak-most}
 
 -- The first line, and the others.
 abbrev first : List ℕ → List ℕ
@@ -81,20 +82,20 @@ lineStart-past (b ∷ text) (suc o) =
 
 -- The bytes up to the first byte 10.
 upToFirst : List ℕ → List ℕ
-upToFirst text = take (upTo text) text
+upToFirst text = take (beforeBreak text) text
 
 module _ (b : ℕ) (text : List ℕ) where
   upToFirst-here : eqb b 10 ≡ true → upToFirst (b ∷ text) ≡ []
   unfolding upToFirst
-  upToFirst-here t = rw (upTo-here b text t)
+  upToFirst-here t = rw (beforeBreak-here b text t)
 
   upToFirst-later : eqb b 10 ≡ false → upToFirst (b ∷ text) ≡ b ∷ upToFirst text
   unfolding upToFirst
-  upToFirst-later f = rw (upTo-later b text f)
+  upToFirst-later f = rw (beforeBreak-later b text f)
 
 -- A line is what lies between its start and the next byte 10.
 line-nil : (o : ℕ) → lineFor [] o ≡ upToFirst (drop (past [] o) [])
-unfolding lineFor lines past upTo upToFirst
+unfolding lineFor lines past beforeBreak upToFirst
 line-nil zero = refl
 line-nil (suc o) = refl
 
@@ -114,9 +115,9 @@ line-there (b ∷ text) (suc o) =
     (true-or-false (eqb b 10))
 
 module _ (text : List ℕ) (o : ℕ) where
-  pub length-lineFor : length (lineFor text o) ≡ upTo (drop (past text o) text)
+  pub length-lineFor : length (lineFor text o) ≡ beforeBreak (drop (past text o) text)
   unfolding upToFirst
-  length-lineFor = rw (line-there text o) (length-take-le _ _ (upTo-most (drop (past text o) text)))
+  length-lineFor = rw (line-there text o) (length-take-le _ _ (beforeBreak-most (drop (past text o) text)))
 
   pub past-most : past text o ≤ length text
   unfolding lineStart
@@ -126,7 +127,7 @@ module _ (text : List ℕ) (o : ℕ) where
   pub line-fits : lineStart text o + length (lineFor text o) ≤ length text
   line-fits =
       rw (lineStart-past text o, length-lineFor)
-      (omega (arith, past-most, upTo-most (drop (past text o) text), length-drop (past text o) text))
+      (omega (arith, past-most, beforeBreak-most (drop (past text o) text), length-drop (past text o) text))
 
   pub lineFor-at : take (length (lineFor text o)) (drop (lineStart text o) text) ≡ lineFor text o
   unfolding upToFirst
@@ -137,9 +138,39 @@ module _ (text : List ℕ) (o : ℕ) where
       → _≡_ {A = Span} (record { place = start; length = end - start }) (lineSpan text o)
   line-measured s e = rw (lineStart-past text o, length-lineFor, e, s, add-sub-cancel-left)
 
+-- There is one line more than there are bytes 10.
+length-none : length (lines []) ≡ suc (ended [])
+unfolding lines ended
+length-none = refl
+
+pub length-lines : (text : List ℕ) → length (lines text) ≡ suc (ended text)
+length-lines [] = length-none
+length-lines (b ∷ text) =
+    ⊎-elim
+    (λ t. ap length (lines-ends b text t) ∙ ap suc (length-lines text ∙ sym (ended-ends b text t)))
+    (λ f. ap length (lines-other b text f) ∙ (sym (ap length (lines-some text)) ∙ (length-lines text ∙ ap suc (sym (ended-other b text f)))))
+    (true-or-false (eqb b 10))
+
+-- As many bytes 10 are before a line as its number says, or all.
+pub ended-past : (text : List ℕ) (o : ℕ) → ended (take (past text o) text) ≡ min o (ended text)
+unfolding ended
+ended-past [] o = rw (past-nil o) (sym (min-zero o))
+ended-past (b ∷ text) zero = rw (past-zero (b ∷ text)) (sym (zero-min (ended (b ∷ text))))
+ended-past (b ∷ text) (suc o) =
+    ⊎-elim
+    (λ t. rw (past-ends b text o t)
+    (ended-ends b (take (past text o) text) t
+    ∙ (ap suc (ended-past text o) ∙ (sym (suc-min-suc o (ended text)) ∙ ap (min (suc o)) (sym (ended-ends b text t))))))
+    (λ f. rw (past-other b text o f)
+    (ended-other b (take (past text (suc o)) text) f ∙ (ended-past text (suc o) ∙ ap (min (suc o)) (sym (ended-other b text f)))))
+    (true-or-false (eqb b 10))
+
+pub ended-lineStart : (text : List ℕ) (o : ℕ) → ended (take (lineStart text o) text) ≡ min o (ended text)
+ended-lineStart text o = rw (lineStart-past text o) (ended-past text o)
+
 -- No byte 10 is in a line.
 member-upToFirst : (text : List ℕ) → member 10 (upToFirst text) ≡ false
-unfolding member upTo upToFirst
+unfolding member beforeBreak upToFirst
 member-upToFirst [] = refl
 member-upToFirst (b ∷ text) =
     ⊎-elim (λ t. rw (upToFirst-here b text t))

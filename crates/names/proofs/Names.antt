@@ -10,8 +10,9 @@ use lib.ListN.{length, drop, take}
 use Rattle.vocabulary.specs.Those.{some}
 use Rattle.vocabulary.proofs.Those.{some-none}
 use Rattle.names.specs.Lines.{lineSpan, lineFor}
-use Rattle.names.specs.Name.{nameOf, noStretch, shown, stretchOf}
-use Rattle.names.specs.Part.{Part, cut, namePart}
+use Rattle.names.specs.Name.{nameOf, noStretch, nameShown, stretchOf}
+use Rattle.names.specs.Part.{Part, namePart}
+use Rattle.names.specs.Scan.{cut}
 use Rattle.names.specs.declared.Span.{Span}
 use Rattle.names.specs.declared.Stretch.{Stretch}
 use Rattle.names.proofs.Lines.{line-fits, lineFor-at}
@@ -26,28 +27,28 @@ none-length (x ∷ l) h = absurd (omega (arith, h))
 
 -- Whichever of the two lines are empty.
 module _ (client house : List ℕ) (o : ℕ) where
-  shown-by : (t u : Bool) → some (lineFor client o) ≡ t → some (lineFor house o) ≡ u
-      → cond t (stretchOf 0 (lineSpan client o)) (cond u (stretchOf 1 (lineSpan house o)) noStretch) ≡ shown client house o
-  unfolding shown
-  shown-by t u e f = rw (← e, ← f)
+  nameShown-by : (t u : Bool) → some (lineFor client o) ≡ t → some (lineFor house o) ≡ u
+      → cond t (stretchOf 0 (lineSpan client o)) (cond u (stretchOf 1 (lineSpan house o)) noStretch) ≡ nameShown client house o
+  unfolding nameShown
+  nameShown-by t u e f = rw (← e, ← f)
 
   -- The lines as they were found.
   module _ {own : Span} (e : own ≡ lineSpan client o) where
-    pub shown-client : (own .length ≡ 0 → ⊥) → stretchOf 0 own ≡ shown client house o
-    shown-client h =
+    pub nameShown-client : (own .length ≡ 0 → ⊥) → stretchOf 0 own ≡ nameShown client house o
+    nameShown-client h =
         ap (stretchOf 0) e
-        ∙ shown-by true (some (lineFor house o)) (some-length (lineFor client o) (λ z. h (ap (λ (l : Span). l .length) e ∙ z))) refl
+        ∙ nameShown-by true (some (lineFor house o)) (some-length (lineFor client o) (λ z. h (ap (λ (l : Span). l .length) e ∙ z))) refl
 
     module _ {line : Span} (empty : own .length ≡ 0) (f : line ≡ lineSpan house o) where
       own-none : some (lineFor client o) ≡ false
       own-none = none-length (lineFor client o) (ap (λ (l : Span). l .length) (sym e) ∙ empty)
 
-      pub shown-house : (line .length ≡ 0 → ⊥) → stretchOf 1 line ≡ shown client house o
-      shown-house h =
-          ap (stretchOf 1) f ∙ shown-by false true own-none (some-length (lineFor house o) (λ z. h (ap (λ (l : Span). l .length) f ∙ z)))
+      pub nameShown-house : (line .length ≡ 0 → ⊥) → stretchOf 1 line ≡ nameShown client house o
+      nameShown-house h =
+          ap (stretchOf 1) f ∙ nameShown-by false true own-none (some-length (lineFor house o) (λ z. h (ap (λ (l : Span). l .length) f ∙ z)))
 
-      pub shown-none : line .length ≡ 0 → noStretch ≡ shown client house o
-      shown-none h = shown-by false false own-none (none-length (lineFor house o) (ap (λ (l : Span). l .length) (sym f) ∙ h))
+      pub nameShown-none : line .length ≡ 0 → noStretch ≡ nameShown client house o
+      nameShown-none h = nameShown-by false false own-none (none-length (lineFor house o) (ap (λ (l : Span). l .length) (sym f) ∙ h))
 
 -- ---- where the name lies
 
@@ -71,30 +72,30 @@ module _ (client house : List ℕ) (o : ℕ) where
   fit-by false true e f = (lineFor-at house o, line-fits house o, rw f)
   fit-by false false e f = (sym (some-none _ f), omega arith, rw f)
 
-  shown-fit : Fit (shown client house o) (nameOf client house o)
-  unfolding shown nameOf
-  shown-fit = fit-by (some (lineFor client o)) (some (lineFor house o)) refl refl
+  nameShown-fit : Fit (nameShown client house o) (nameOf client house o)
+  unfolding nameShown nameOf
+  nameShown-fit = fit-by (some (lineFor client o)) (some (lineFor house o)) refl refl
 
-  pub shown-lies : take (shown client house o .length) (drop (shown client house o .place) (textOf (shown client house o))) ≡ nameOf client house o
+  pub nameShown-lies : take (nameShown client house o .length) (drop (nameShown client house o .place) (textOf (nameShown client house o))) ≡ nameOf client house o
   unfolding Fit
-  shown-lies = shown-fit .0
+  nameShown-lies = nameShown-fit .0
 
-  pub shown-number : shown client house o .number ≡ cond (some (nameOf client house o)) 0 81
+  pub nameShown-number : nameShown client house o .number ≡ cond (some (nameOf client house o)) 0 81
   unfolding Fit
-  shown-number = shown-fit .2
+  nameShown-number = nameShown-fit .2
 
-  pub stretch-fits : {s : Stretch} → s ≡ shown client house o → s .place + s .length ≤ length (textOf s)
+  pub stretch-fits : {s : Stretch} → s ≡ nameShown client house o → s .place + s .length ≤ length (textOf s)
   unfolding Fit
-  stretch-fits e = rw e (shown-fit .1)
+  stretch-fits e = rw e (nameShown-fit .1)
 
 cond-bytes : (client house : Part) (t : Bool) → (cond t client house) .bytes ≡ cond t (client .bytes) (house .bytes)
 cond-bytes client house true = refl
 cond-bytes client house false = refl
 
 -- Cut where the stretch says that is shown, a text has the name's part.
-pub cut-shown : (client house : Part) (o : ℕ) {s : Stretch} → s ≡ shown (client .bytes) (house .bytes) o
+pub cut-nameShown : (client house : Part) (o : ℕ) {s : Stretch} → s ≡ nameShown (client .bytes) (house .bytes) o
     → cut (cond (eqb (s .text) 0) client house) (s .place) (s .length) ≡ namePart client house o
-cut-shown client house o e = rw e (rw (cond-bytes client house _, shown-lies (client .bytes) (house .bytes) o))
+cut-nameShown client house o e = rw e (rw (cond-bytes client house _, nameShown-lies (client .bytes) (house .bytes) o))
 
 -- No byte, as the code cuts it.
 pub cut-none : (text : Part) → _≡_ {A = Part} (record { block = text .block; start = 0 + text .start; bytes = [] }) (cut text 0 0)

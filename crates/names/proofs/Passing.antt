@@ -12,7 +12,7 @@ use lib.ListN.{length, drop, take, getD, length-drop, take-append-drop, drop-of-
 use lib.Seq.{drop-cons, drop-drop, length-take-le}
 use Rattle.vocabulary.proofs.Bools.{true-or-false}
 use Rattle.line_numbers.specs.LineNumber.{ended}
-use Rattle.names.specs.Scan.{byBreak, endFrom, least, past, pastFrom, upTo}
+use Rattle.names.specs.Scan.{byBreak, endFrom, least, past, pastFrom, beforeBreak}
 
 -- ---- bytes 10
 
@@ -28,13 +28,19 @@ pub one-most : (b : ℕ) {r : ℕ} → r ≡ byBreak b 1 0 → r ≤ 1
 one-most b e =
     ⊎-elim (λ t. omega (arith, e, byBreak-true b 1 0 t)) (λ f. omega (arith, e, byBreak-false b 1 0 f)) (true-or-false (eqb b 10))
 
-ended-cons : (b : ℕ) (text : List ℕ) → ended (b ∷ text) ≡ byBreak b 1 0 + ended text
-unfolding ended byBreak
-ended-cons b text = by (eqb b 10)
-  where
-    by : (t : Bool) → cond t (suc (ended text)) (ended text) ≡ cond t 1 0 + ended text
-    by true = omega arith
-    by false = omega arith
+module _ (b : ℕ) (text : List ℕ) where
+  pub ended-ends : eqb b 10 ≡ true → ended (b ∷ text) ≡ suc (ended text)
+  unfolding ended
+  ended-ends t = rw t
+
+  pub ended-other : eqb b 10 ≡ false → ended (b ∷ text) ≡ ended text
+  unfolding ended
+  ended-other f = rw f
+
+  ended-cons : ended (b ∷ text) ≡ byBreak b 1 0 + ended text
+  ended-cons =
+      ⊎-elim (λ t. omega (arith, ended-ends t, byBreak-true b 1 0 t)) (λ f. omega (arith, ended-other f, byBreak-false b 1 0 f))
+      (true-or-false (eqb b 10))
 
 pub past-nil : (n : ℕ) → past [] n ≡ 0
 unfolding past
@@ -66,68 +72,68 @@ past-append (b ∷ xs) ys (suc n) h =
 -- ---- the first byte 10
 
 module _ (b : ℕ) (text : List ℕ) where
-  pub upTo-here : eqb b 10 ≡ true → upTo (b ∷ text) ≡ 0
-  unfolding upTo
-  upTo-here t = rw t
+  pub beforeBreak-here : eqb b 10 ≡ true → beforeBreak (b ∷ text) ≡ 0
+  unfolding beforeBreak
+  beforeBreak-here t = rw t
 
-  pub upTo-later : eqb b 10 ≡ false → upTo (b ∷ text) ≡ suc (upTo text)
-  unfolding upTo
-  upTo-later f = rw f
+  pub beforeBreak-later : eqb b 10 ≡ false → beforeBreak (b ∷ text) ≡ suc (beforeBreak text)
+  unfolding beforeBreak
+  beforeBreak-later f = rw f
 
-pub upTo-most : (text : List ℕ) → upTo text ≤ length text
-unfolding upTo
-upTo-most [] = omega arith
-upTo-most (b ∷ text) =
-    ⊎-elim (λ t. omega (arith, upTo-here b text t)) (λ f. omega (arith, upTo-later b text f, upTo-most text)) (true-or-false (eqb b 10))
+pub beforeBreak-most : (text : List ℕ) → beforeBreak text ≤ length text
+unfolding beforeBreak
+beforeBreak-most [] = omega arith
+beforeBreak-most (b ∷ text) =
+    ⊎-elim (λ t. omega (arith, beforeBreak-here b text t)) (λ f. omega (arith, beforeBreak-later b text f, beforeBreak-most text)) (true-or-false (eqb b 10))
 
 -- A part that has one tells it; a part that has none is passed over whole.
-pub upTo-found : (xs ys : List ℕ) → upTo xs < length xs → upTo (xs ++ ys) ≡ upTo xs
-unfolding upTo
-upTo-found [] ys h = absurd (omega (arith, h))
-upTo-found (b ∷ xs) ys h =
+pub beforeBreak-found : (xs ys : List ℕ) → beforeBreak xs < length xs → beforeBreak (xs ++ ys) ≡ beforeBreak xs
+unfolding beforeBreak
+beforeBreak-found [] ys h = absurd (omega (arith, h))
+beforeBreak-found (b ∷ xs) ys h =
     ⊎-elim (λ t. rw t)
-    (λ f. rw f (ap suc (upTo-found xs ys (omega (arith, h, upTo-later b xs f)))))
+    (λ f. rw f (ap suc (beforeBreak-found xs ys (omega (arith, h, beforeBreak-later b xs f)))))
     (true-or-false (eqb b 10))
 
-pub upTo-passed : (xs ys : List ℕ) → length xs ≤ upTo xs → upTo (xs ++ ys) ≡ length xs + upTo ys
-unfolding upTo
-upTo-passed [] ys h = sym (zero-add _)
-upTo-passed (b ∷ xs) ys h =
-    ⊎-elim (λ t. absurd (omega (arith, h, upTo-here b xs t)))
-    (λ f. upTo-later b (xs ++ ys) f ∙ (ap suc (upTo-passed xs ys (omega (arith, h, upTo-later b xs f))) ∙ sym (suc-add _ _)))
+pub beforeBreak-passed : (xs ys : List ℕ) → length xs ≤ beforeBreak xs → beforeBreak (xs ++ ys) ≡ length xs + beforeBreak ys
+unfolding beforeBreak
+beforeBreak-passed [] ys h = sym (zero-add _)
+beforeBreak-passed (b ∷ xs) ys h =
+    ⊎-elim (λ t. absurd (omega (arith, h, beforeBreak-here b xs t)))
+    (λ f. beforeBreak-later b (xs ++ ys) f ∙ (ap suc (beforeBreak-passed xs ys (omega (arith, h, beforeBreak-later b xs f))) ∙ sym (suc-add _ _)))
     (true-or-false (eqb b 10))
 
 -- Where n bytes are passed without one, the next is the first, or is passed too.
-pub upTo-at : (text : List ℕ) (n : ℕ) → n < length text → n ≤ upTo text → eqb (getD text n 0) 10 ≡ true → upTo text ≡ n
-upTo-at [] n h k e = absurd (omega (arith, h))
-upTo-at (b ∷ text) zero h k e = upTo-here b text e
-upTo-at (b ∷ text) (suc n) h k e =
-    ⊎-elim (λ t. absurd (omega (arith, k, upTo-here b text t)))
-    (λ f. upTo-later b text f ∙ ap suc (upTo-at text n (omega (arith, h)) (omega (arith, k, upTo-later b text f)) e))
+pub beforeBreak-at : (text : List ℕ) (n : ℕ) → n < length text → n ≤ beforeBreak text → eqb (getD text n 0) 10 ≡ true → beforeBreak text ≡ n
+beforeBreak-at [] n h k e = absurd (omega (arith, h))
+beforeBreak-at (b ∷ text) zero h k e = beforeBreak-here b text e
+beforeBreak-at (b ∷ text) (suc n) h k e =
+    ⊎-elim (λ t. absurd (omega (arith, k, beforeBreak-here b text t)))
+    (λ f. beforeBreak-later b text f ∙ ap suc (beforeBreak-at text n (omega (arith, h)) (omega (arith, k, beforeBreak-later b text f)) e))
     (true-or-false (eqb b 10))
 
-pub upTo-on : (text : List ℕ) (n : ℕ) → n < length text → n ≤ upTo text → eqb (getD text n 0) 10 ≡ false → suc n ≤ upTo text
-upTo-on [] n h k e = absurd (omega (arith, h))
-upTo-on (b ∷ text) zero h k e = omega (arith, upTo-later b text e)
-upTo-on (b ∷ text) (suc n) h k e =
-    ⊎-elim (λ t. absurd (omega (arith, k, upTo-here b text t)))
-    (λ f. omega (arith, upTo-later b text f, upTo-on text n (omega (arith, h)) (omega (arith, k, upTo-later b text f)) e))
+pub beforeBreak-on : (text : List ℕ) (n : ℕ) → n < length text → n ≤ beforeBreak text → eqb (getD text n 0) 10 ≡ false → suc n ≤ beforeBreak text
+beforeBreak-on [] n h k e = absurd (omega (arith, h))
+beforeBreak-on (b ∷ text) zero h k e = omega (arith, beforeBreak-later b text e)
+beforeBreak-on (b ∷ text) (suc n) h k e =
+    ⊎-elim (λ t. absurd (omega (arith, k, beforeBreak-here b text t)))
+    (λ f. omega (arith, beforeBreak-later b text f, beforeBreak-on text n (omega (arith, h)) (omega (arith, k, beforeBreak-later b text f)) e))
     (true-or-false (eqb b 10))
 
 -- ---- the least place of one, in a block of at most 255 bytes
 
 -- What n bytes tell: none is a byte 10, or one is the first.
 abbrev pub Told : List ℕ → ℕ → Type 0
-Told text n = ((least text n ≡ 255) × (n ≤ upTo text)) ⊎ ((least text n ≡ upTo text) × (upTo text < n))
+Told text n = ((least text n ≡ 255) × (n ≤ beforeBreak text)) ⊎ ((least text n ≡ beforeBreak text) × (beforeBreak text < n))
 
 -- One byte more.
 told-suc : (text : List ℕ) (n : ℕ) → n < length text → n < 255 → Told text n → Told text (suc n)
 unfolding least
 told-suc text n h k (inl none) =
     ⊎-elim
-    (λ t. let first : upTo text ≡ n = upTo-at text n h (none .1) t in
+    (λ t. let first : beforeBreak text ≡ n = beforeBreak-at text n h (none .1) t in
     inr (rw (none .0, byBreak-true _ n 255 t, first) (min-eq-right (omega (arith, k))), omega (arith, first)))
-    (λ f. inl (rw (none .0, byBreak-false _ n 255 f), upTo-on text n h (none .1) f))
+    (λ f. inl (rw (none .0, byBreak-false _ n 255 f), beforeBreak-on text n h (none .1) f))
     (true-or-false (eqb (getD text n 0) 10))
 told-suc text n h k (inr found) =
     inr (
@@ -188,14 +194,14 @@ module _ (text : List ℕ) (at : ℕ) where
       ∙ (ap (λ (m : ℕ). at + m) passed ∙ rw (block-length text at k h, e, add-assoc)))
 
   pub end-length : length text ≤ at → endFrom text at ≡ at
-  unfolding upTo
+  unfolding beforeBreak
   end-length h = rw (drop-of-length-le text h, add-zero)
 
   pub end-here : at < length text → eqb (getD text at 0) 10 ≡ true → endFrom text at ≡ at
-  end-here h t = rw (drop-cons text at 0 h, upTo-here _ _ t, add-zero)
+  end-here h t = rw (drop-cons text at 0 h, beforeBreak-here _ _ t, add-zero)
 
   pub end-step : at < length text → eqb (getD text at 0) 10 ≡ false → endFrom text at ≡ endFrom text (at + 1)
-  end-step h f = rw (drop-cons text at 0 h, upTo-later _ _ f, add-one) (omega arith)
+  end-step h f = rw (drop-cons text at 0 h, beforeBreak-later _ _ f, add-one) (omega arith)
 
   -- A block tells its first byte 10, or is passed over whole.
   module _ {r : ℕ} (k : ℕ) (h : at + k ≤ length text) (small : k ≤ 255) (e : r ≡ least (block text at k) k) where
@@ -205,14 +211,14 @@ module _ (text : List ℕ) (at : ℕ) where
     pub end-block-found : r < k → at + r ≡ endFrom text at
     end-block-found found =
         ⊎-elim (λ none. absurd (omega (arith, none .0, found, small, e)))
-        (λ first. let told = upTo-found (block text at k) (drop (at + k) text) (omega (arith, block-length text at k h, first .1)) in
-        ap (λ (m : ℕ). at + m) (e ∙ (first .0 ∙ (sym told ∙ ap upTo (block-rest text at k)))))
+        (λ first. let told = beforeBreak-found (block text at k) (drop (at + k) text) (omega (arith, block-length text at k h, first .1)) in
+        ap (λ (m : ℕ). at + m) (e ∙ (first .0 ∙ (sym told ∙ ap beforeBreak (block-rest text at k)))))
         block-told
 
     pub end-block-passed : k ≤ r → endFrom text (at + k) ≡ endFrom text at
     end-block-passed passed =
         ⊎-elim
-        (λ none. let told = upTo-passed (block text at k) (drop (at + k) text) (omega (arith, block-length text at k h, none .1)) in
-        rw add-assoc (ap (λ (m : ℕ). at + m) (rw (block-length text at k h) at (sym told) ∙ ap upTo (block-rest text at k))))
+        (λ none. let told = beforeBreak-passed (block text at k) (drop (at + k) text) (omega (arith, block-length text at k h, none .1)) in
+        rw add-assoc (ap (λ (m : ℕ). at + m) (rw (block-length text at k h) at (sym told) ∙ ap beforeBreak (block-rest text at k))))
         (λ first. absurd (omega (arith, first .0, first .1, passed, e)))
         block-told

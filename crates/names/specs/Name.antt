@@ -3,7 +3,7 @@ use Prim.Native.Nat.{ℕ}
 use mathlib.Core.Bool.{cond}
 use mathlib.Core.List.{List}
 use Rattle.vocabulary.specs.Those.{some}
-use Rattle.names.specs.Lines.{lineSpan, lineFor}
+use Rattle.names.specs.Lines.{lineFor, lineSpan}
 use Rattle.names.specs.declared.Span.{Span}
 use Rattle.names.specs.declared.Name.{Name}
 use Rattle.names.specs.declared.Name.the-variants.{Client, House, Unnamed}
@@ -34,8 +34,8 @@ noStretch =
     }
 
 -- 'The name comes back as the stretch of whichever text it was found in'; '81 if neither has one that isn't empty'.
-unfoldable pub shown : List ℕ → List ℕ → ℕ → Stretch
-shown client house o =
+unfoldable pub nameShown : List ℕ → List ℕ → ℕ → Stretch
+nameShown client house o =
     cond (some (lineFor client o)) (stretchOf 0 (lineSpan client o))
     (cond (some (lineFor house o)) (stretchOf 1 (lineSpan house o)) noStretch)
 

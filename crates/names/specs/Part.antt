@@ -3,9 +3,8 @@ use Prim.Native.Nat.{ℕ, _+_}
 use mathlib.Core.Bool.{cond}
 use mathlib.Core.List.{List}
 use lib.Dec.{eqb}
-use lib.ListN.{drop, take}
 use denote.Ref.{RefT}
-use Rattle.names.specs.Name.{nameOf, shown}
+use Rattle.names.specs.Name.{nameOf, nameShown}
 use Rattle.names.specs.declared.Stretch.{Stretch}
 
 -- Bytes in memory: the block of memory that they are in, the place of the first in that block, and the bytes.
@@ -23,20 +22,11 @@ partOf slice =
       bytes = slice .now;
     }
 
--- Of bytes in memory, those from a place on.
-abbrev pub cut : Part → ℕ → ℕ → Part
-cut text place count =
-    record {
-      block = text .block;
-      start = text .start + place;
-      bytes = take count (drop place (text .bytes));
-    }
-
 -- The name in whichever text it was found in: in that text's block, as many bytes behind the text's start as the stretch says. At 81 no byte, at
 -- the start of the client's text.
 abbrev pub namePart : Part → Part → ℕ → Part
 namePart client house o =
-    let found : Stretch = shown (client .bytes) (house .bytes) o in
+    let found : Stretch = nameShown (client .bytes) (house .bytes) o in
     let text : Part = cond (eqb (found .text) 0) client house in
     record {
       block = text .block;

@@ -4,18 +4,19 @@ ghost use Prim.Native.Nat.{_+_, _≤_};
 ghost use mathlib.Core.Path.{_≡_};
 ghost use lib.ListN.{length};
 ghost use Rattle.names.specs.Lines.{lineSpan};
-ghost use Rattle.names.specs.Name.{nameAnswer, shown, stretchOf};
-ghost use Rattle.names.specs.Part.{cut, namePart, partOf};
+ghost use Rattle.names.specs.Name.{nameAnswer, nameShown, stretchOf};
+ghost use Rattle.names.specs.Part.{namePart, partOf};
+ghost use Rattle.names.specs.Scan.{cut};
 
 mod scan; // a text passed over, in blocks
 
-// Where a line lies in a text: the place of its first byte, and how many bytes it has.
+// Where a line lies in a text: the place at which it begins, and how many bytes it has.
 pub struct Span {
     pub place: usize,
     pub length: usize,
 }
 
-// The answers: the line of the client's text, or that of the house's, which is not empty; 81, there is none.
+// The answers: where the client's line lies, or the house's, each not empty; 81, neither has one.
 pub enum Name {
     Client(Span),
     House(Span),
@@ -45,7 +46,7 @@ pub fn line_span(text: &[u8], folder: FolderNo) -> Span
 
 // Where the name of a folder lies: the client's line if it is not empty, otherwise the house's.
 pub fn find(client: &[u8], house: &[u8], folder: FolderNo) -> Name
-    ensures { λ r. ⌜ nameAnswer r ≡ shown (now (client .entry)) (now (house .entry)) (folder .0) ⌝ }
+    ensures { λ r. ⌜ nameAnswer r ≡ nameShown (now (client .entry)) (now (house .entry)) (folder .0) ⌝ }
 {
     let own = line_span(client, folder);
     if own.length != 0 {

@@ -2,7 +2,7 @@
 use mathlib.Core.Path.{_∙_}
 use Rattle.names.specs.Name.{noStretch, stretchOf}
 use Rattle.names.specs.Part.{partOf}
-use Rattle.names.proofs.Names.{cut-none, cut-shown, stretch-fits}
+use Rattle.names.proofs.Names.{cut-none, cut-nameShown, stretch-fits}
 use borrow.Author.Needs.{needs}
 use Rattle.names.proofs.folder_name.Statement.{statement}
 use Rattle.names.proofs.folder_name.Tie as tie
@@ -38,15 +38,15 @@ part-result-end c = search needs
 
 returns : tie.Need-returns
 returns c =
-    c .part .ensures ∙ cut-shown _ _ _ {s = stretchOf 0 (c .before .before .span .given .0 .0)} (rw (c .before .before .span .given .1) at (c .before .before .before .before .find .ensures))
+    c .part .ensures ∙ cut-nameShown _ _ _ {s = stretchOf 0 (c .before .before .span .given .0 .0)} (rw (c .before .before .span .given .1) at (c .before .before .before .before .find .ensures))
 
 returns-2 : tie.Need-returns-2
 returns-2 c =
-    c .part2 .ensures ∙ cut-shown _ _ _ {s = stretchOf 1 (c .before .before .span2 .given .0 .0)} (rw (c .before .before .span2 .given .1) at (c .before .before .before .before .find .ensures))
+    c .part2 .ensures ∙ cut-nameShown _ _ _ {s = stretchOf 1 (c .before .before .span2 .given .0 .0)} (rw (c .before .before .span2 .given .1) at (c .before .before .before .before .find .ensures))
 
 returns-3 : tie.Need-returns-3
 returns-3 c =
-    cut-none (partOf (c .before .before .before .before .before .before .args .client)) ∙ cut-shown _ _ _ {s = noStretch} (rw (c .before .enum-told .given .1) at (c .before .before .before .find .ensures))
+    cut-none (partOf (c .before .before .before .before .before .before .args .client)) ∙ cut-nameShown _ _ _ {s = noStretch} (rw (c .before .enum-told .given .1) at (c .before .before .before .find .ensures))
 
 pub folder-name-spec : {M : Type 1} → statement M
 folder-name-spec =
