@@ -344,10 +344,10 @@ hc_number hc_number_read(const uint8_t *log, size_t log_len, size_t place);
  *           is not empty                                                    HC_TEXT_HOUSE     the line in the house's text
  *   81      neither has one that is not empty                               0                 0, 0
  *
- * Nothing is copied: the name is `length` bytes of that text from `place` on. It has at least one byte, may hold every byte but 10
- * and is not ended by a 0; carriage returns and blanks are bytes like others. Both texts are only read, so they may be the same or
- * overlap. A client without a text of its own has one of length 0. Every folder number has an answer; no register is asked how many
- * there are.
+ * Nothing is copied: the name is `length` bytes of that text from `place` on. It has at least one byte and may hold every byte but
+ * 10; carriage returns and blanks are bytes like others, and no 0 is put behind it. Both texts are only read, so they may be the same
+ * or overlap. A client without a text of its own has one of length 0 (its pointer is still not null). Every folder number has an
+ * answer; no register is asked how many there are.
  */
 typedef struct {
     uint16_t number, text;

@@ -1,6 +1,6 @@
 /* The name to show for a folder, on the edges of what was asked for, through the C interface: both texts, the folder, then all four fields
-   and the name, one call to a line. Each call is made on copies between guards, once of line ends and once of letters: an answer that leans
-   on them, or a byte that changes, is said on the line. The file board.stdout has what they must print. */
+   and the name, one call to a line. But for the last ones, on texts that overlap, each call is made on copies between guards, once of line ends
+   and once of letters: an answer that leans on them, or a byte that changes, is said on the line. The file board.stdout has what they must print. */
 #include <stdio.h>
 #include <string.h>
 
