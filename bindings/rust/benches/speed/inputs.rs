@@ -167,20 +167,19 @@ pub struct Texts {
     pub house: Vec<u8>,
 }
 
-/// How many lines a text has.
-const LINES: usize = 512;
-
-/// Some dozens of pairs of texts of `len` bytes each. Half of the client's lines are empty, other ones in each pair.
-pub fn texts(len: usize) -> Vec<Texts> {
+/// Some dozens of pairs of texts of `len` bytes and so many lines each. Half of the client's lines are empty, other ones in each pair.
+pub fn texts(len: usize, lines: usize) -> Vec<Texts> {
     let mut random = Random(11);
-    (0..48).map(|_| Texts { client: text(&mut random, len, LINES / 2), house: text(&mut random, len, LINES) }).collect()
+    (0..48)
+        .map(|_| Texts { client: text(&mut random, len, lines, lines / 2), house: text(&mut random, len, lines, lines) })
+        .collect()
 }
 
-/// A text of `len` bytes in which so many lines are not empty. Two of these share what is theirs, so their lengths are random and
-/// their sum is not.
-fn text(random: &mut Random, len: usize, named: usize) -> Vec<u8> {
-    let mean = (len - LINES) / named;
-    let mut lengths = vec![0; LINES];
+/// A text of `len` bytes and so many lines, of which `named` are not empty. Two of these share what is theirs, so their lengths are
+/// random and their sum is not.
+fn text(random: &mut Random, len: usize, lines: usize, named: usize) -> Vec<u8> {
+    let mean = (len - lines) / named;
+    let mut lengths = vec![0; lines];
     for two in lengths[..named].chunks_exact_mut(2) {
         two[0] = 1 + random.below(2 * mean - 1);
         two[1] = 2 * mean - two[0];

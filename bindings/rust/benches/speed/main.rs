@@ -282,13 +282,19 @@ fn naming<'a>(
 }
 
 fn names() {
-    println!("## Folder names, texts of 512 lines each, half of the client's lines empty\n");
-    println!("| Name | library | Rust | library / Rust |");
+    println!("## Folder names, half of the client's lines empty\n");
+    println!("| Two texts of | library | Rust | library / Rust |");
     println!("|---|---|---|---|");
-    for len in [65_536, 8_192] {
-        let texts = inputs::texts(len);
+    let sizes = [
+        ("64 KiB, 512 lines", 65_536, [0, 255, 511]),
+        ("8 KiB, 512 lines", 8_192, [0, 255, 511]),
+        ("128 bytes, 8 lines", 128, [0, 3, 7]),
+        ("32 bytes, 4 lines", 32, [0, 1, 3]),
+    ];
+    for (size, len, folders) in sizes {
+        let texts = inputs::texts(len, usize::from(folders[2]) + 1);
         let orders = inputs::orders(texts.len());
-        for folder in [0, 255, 511].map(FolderNo) {
+        for folder in folders.map(FolderNo) {
             for Texts { client, house } in &texts {
                 let name = housechervil::folder_name(client, house, folder).expect("the house names every folder");
                 assert_eq!(
@@ -304,7 +310,7 @@ fn names() {
                 each.least /= texts.len() as f64;
             }
             let times: Vec<String> = measured.iter().map(ns).collect();
-            println!("| {} KiB, folder {folder} | {} | {} |", len / 1024, times.join(" | "), ratio(&measured, 1));
+            println!("| {size}: folder {folder} | {} | {} |", times.join(" | "), ratio(&measured, 1));
         }
     }
 }
