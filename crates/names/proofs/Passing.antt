@@ -4,7 +4,7 @@ use native.Mathlib.Numerals.{add-one}
 use native.Mathlib.Nat.{zero-add, add-zero, suc-add, sub-zero, sub-add-eq, add-assoc, add-sub-cancel-left, min-eq-left, min-eq-right}
 use native.Mathlib.Omega.{arith}
 use mathlib.Core.Path.{_≡_, refl, sym, ap, _∙_}
-use mathlib.Core.Bool.{Bool, true, false, cond}
+use mathlib.Core.Bool.{true, false}
 use mathlib.Core.Logic.{_⊎_, inl, inr, ⊎-elim}
 use mathlib.Core.List.{List, [], _∷_, _++_}
 use lib.Dec.{eqb}
@@ -120,6 +120,30 @@ beforeBreak-on (b ∷ text) (suc n) h k e =
     (λ f. omega (arith, beforeBreak-later b text f, beforeBreak-on text n (omega (arith, h)) (omega (arith, k, beforeBreak-later b text f)) e))
     (true-or-false (eqb b 10))
 
+-- What is passed up to the first byte 10 and with it, or in all.
+past-found : (text : List ℕ) (n : ℕ) → beforeBreak text < length text
+    → past text (suc n) ≡ suc (beforeBreak text) + past (drop (suc (beforeBreak text)) text) n
+past-found [] n h = absurd (omega (arith, h))
+past-found (b ∷ text) n h =
+    ⊎-elim
+    (λ t. past-ends b text n t ∙ rw (beforeBreak-here b text t) (omega arith))
+    (λ f. past-other b text n f
+    ∙ rw (beforeBreak-later b text f) (omega (arith, past-found text n (omega (arith, h, beforeBreak-later b text f)))))
+    (true-or-false (eqb b 10))
+
+beforeBreak-nil : beforeBreak [] ≡ 0
+unfolding beforeBreak
+beforeBreak-nil = refl
+
+past-unfound : (text : List ℕ) (n : ℕ) → length text ≤ beforeBreak text → past text (suc n) ≡ beforeBreak text
+past-unfound [] n h = past-nil (suc n) ∙ sym beforeBreak-nil
+past-unfound (b ∷ text) n h =
+    ⊎-elim
+    (λ t. absurd (omega (arith, h, beforeBreak-here b text t)))
+    (λ f. past-other b text n f
+    ∙ (ap suc (past-unfound text n (omega (arith, h, beforeBreak-later b text f))) ∙ sym (beforeBreak-later b text f)))
+    (true-or-false (eqb b 10))
+
 -- ---- the least place of one, in a block of at most 255 bytes
 
 -- What n bytes tell: none is a byte 10, or one is the first.
@@ -176,14 +200,20 @@ module _ (text : List ℕ) (at : ℕ) where
   pub past-none : pastFrom text at 0 ≡ at
   past-none = rw (past-zero, add-zero)
 
-  pub past-length : (n : ℕ) → length text ≤ at → pastFrom text at n ≡ at
-  unfolding past
-  past-length n h = rw (drop-of-length-le text h, add-zero)
+  -- Over the end of a line, or to the text's end.
+  pub past-line : (n : ℕ) → (n ≡ 0 → ⊥) → endFrom text at < length text → pastFrom text at n ≡ pastFrom text (endFrom text at + 1) (n - 1)
+  past-line zero k h = absurd (k refl)
+  past-line (suc n) k h =
+      let u = beforeBreak (drop at text) in
+      let passed = past-found (drop at text) n (omega (arith, h, length-drop at text)) in
+      let next : at + suc u ≡ at + u + 1 = omega arith in
+      let rest : drop (suc u) (drop at text) ≡ drop (at + u + 1) text = drop-drop (suc u) at text ∙ ap (λ (i : ℕ). drop i text) next in
+      let over : at + past (drop at text) (suc n) ≡ pastFrom text (at + u + 1) n = omega (arith, rw rest at passed) in
+      over ∙ ap (pastFrom text (at + u + 1)) (omega arith)
 
-  pub past-step : (n : ℕ) → at < length text → (n ≡ 0 → ⊥) → pastFrom text at n ≡ pastFrom text (at + 1) (n - byBreak (getD text at 0) 1 0)
-  unfolding past
-  past-step zero h k = absurd (k refl)
-  past-step (suc n) h k = rw (drop-cons text at 0 h, add-one) (omega arith)
+  pub past-last : (n : ℕ) → (n ≡ 0 → ⊥) → at ≤ length text → length text ≤ endFrom text at → pastFrom text at n ≡ endFrom text at
+  past-last zero k h e = absurd (k refl)
+  past-last (suc n) k h e = ap (λ (m : ℕ). at + m) (past-unfound (drop at text) n (omega (arith, e, h, length-drop at text)))
 
   -- A block that has fewer is passed over whole.
   pub past-block : {r : ℕ} (k n : ℕ) → at + k ≤ length text → r ≡ ended (block text at k) → r < n
@@ -192,6 +222,9 @@ module _ (text : List ℕ) (at : ℕ) where
       let passed = past-append (block text at k) (drop (at + k) text) n (omega (arith, e, few)) in
       sym (ap (λ (l : List ℕ). at + past l n) (sym (block-rest text at k))
       ∙ (ap (λ (m : ℕ). at + m) passed ∙ rw (block-length text at k h, e, add-assoc)))
+
+  pub end-most : at ≤ length text → endFrom text at ≤ length text
+  end-most h = omega (arith, h, beforeBreak-most (drop at text), length-drop at text)
 
   pub end-length : length text ≤ at → endFrom text at ≡ at
   unfolding beforeBreak

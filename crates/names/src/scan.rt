@@ -60,48 +60,6 @@ fn first_in(block: &[u8]) -> u8
     first
 }
 
-// ---- the start of a line
-
-// From a place on, the place behind the n-th byte 10, or the text's end, byte by byte.
-// Invariant: from i on that is the place behind the byte 10 with the number `left`.
-fn past_bytes(text: &[u8], at: usize, n: u16) -> usize
-    requires { ⌜ at ≤ length (now text) ⌝ }
-    ensures { λ r. ⌜ r ≡ pastFrom (now (text .entry)) at n ⌝ }
-{
-    let mut left = n;
-    let mut i = at;
-    while i < text.len() {
-        if left == 0 {
-            return i;
-        }
-        let b = text[i];
-        left = left - by_break(b, 1, 0) as u16;
-        i += 1;
-    }
-    i
-}
-
-// The place behind the n-th byte 10, or the text's end. Blocks that do not have it are passed over whole.
-// Invariant: from i on that is the place behind the byte 10 with the number `left`.
-pub(crate) fn line_start(text: &[u8], n: u16) -> usize
-    ensures { λ r. ⌜ r ≡ past (now (text .entry)) n ⌝ }
-{
-    if n == 0 {
-        return 0;
-    }
-    let mut left = n;
-    let mut i = 0;
-    while 64 <= text.len() - i {
-        let here = breaks_in(&text[i..i + 64]) as u16;
-        if left <= here {
-            return past_bytes(text, i, left);
-        }
-        left = left - here;
-        i += 64;
-    }
-    past_bytes(text, i, left)
-}
-
 // ---- the end of a line
 
 // From a place on, the place of the first byte 10, or the text's end, byte by byte.
@@ -149,4 +107,46 @@ pub(crate) fn line_end(text: &[u8], at: usize) -> usize
         return at;
     }
     end_blocks(text, at)
+}
+
+// ---- the start of a line
+
+// From a place on, the place behind the n-th byte 10, or the text's end, line by line.
+// Invariant: from i on that is the place behind the byte 10 with the number `left`.
+fn past_lines(text: &[u8], at: usize, n: u16) -> usize
+    requires { ⌜ at ≤ length (now text) ⌝ }
+    ensures { λ r. ⌜ r ≡ pastFrom (now (text .entry)) at n ⌝ }
+{
+    let mut left = n;
+    let mut i = at;
+    while 0 < left {
+        let end = line_end(text, i);
+        if end == text.len() {
+            return end;
+        }
+        i = end + 1;
+        left -= 1;
+    }
+    i
+}
+
+// The place behind the n-th byte 10, or the text's end. Blocks that do not have it are passed over whole.
+// Invariant: from i on that is the place behind the byte 10 with the number `left`.
+pub(crate) fn line_start(text: &[u8], n: u16) -> usize
+    ensures { λ r. ⌜ r ≡ past (now (text .entry)) n ⌝ }
+{
+    if n == 0 {
+        return 0;
+    }
+    let mut left = n;
+    let mut i = 0;
+    while 64 <= text.len() - i {
+        let here = breaks_in(&text[i..i + 64]) as u16;
+        if left <= here {
+            return past_lines(text, i, left);
+        }
+        left = left - here;
+        i += 64;
+    }
+    past_lines(text, i, left)
 }

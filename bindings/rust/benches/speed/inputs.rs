@@ -171,7 +171,10 @@ pub struct Texts {
 pub fn texts(len: usize, lines: usize) -> Vec<Texts> {
     let mut random = Random(11);
     (0..48)
-        .map(|_| Texts { client: text(&mut random, len, lines, lines / 2), house: text(&mut random, len, lines, lines) })
+        .map(|_| Texts {
+            client: text(&mut random, len, lines, lines / 2),
+            house: text(&mut random, len, lines, lines),
+        })
         .collect()
 }
 

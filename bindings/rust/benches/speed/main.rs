@@ -289,7 +289,6 @@ fn names() {
         ("64 KiB, 512 lines", 65_536, [0, 255, 511]),
         ("8 KiB, 512 lines", 8_192, [0, 255, 511]),
         ("128 bytes, 8 lines", 128, [0, 3, 7]),
-        ("32 bytes, 4 lines", 32, [0, 1, 3]),
     ];
     for (size, len, folders) in sizes {
         let texts = inputs::texts(len, usize::from(folders[2]) + 1);

@@ -6,7 +6,6 @@ use mathlib.Core.Path.{_≡_}
 use lib.ListN.{drop}
 use Rattle.line_numbers.specs.LineNumber.{ended}
 use Rattle.names.proofs.Passing.{ended-length, ended-step, one-most}
-use Rattle.names.proofs.Passing.{ended-step, one-most}
 use borrow.Author.Needs.{needs}
 use Rattle.names.proofs.scan.breaks_in.Statement.{statement}
 use Rattle.names.proofs.scan.breaks_in.Tie as tie

@@ -46,12 +46,12 @@ breaks-in-requires c κs = search needs
 cast-here : tie.Need-cast-here Inv-loop μ-loop
 cast-here c = search needs
 
-past-bytes-requires : tie.Need-past-bytes-requires Inv-loop μ-loop
-past-bytes-requires c κs = search needs
+past-lines-requires : tie.Need-past-lines-requires Inv-loop μ-loop
+past-lines-requires c κs = search needs
 
 returns-2 : tie.Need-returns-2 Inv-loop μ-loop
 returns-2 c =
-    c .past-bytes .ensures ∙ c .before .before .before .before .before .loop .inv .1
+    c .past-lines .ensures ∙ c .before .before .before .before .before .loop .inv .1
 
 sub-left : tie.Need-sub-left Inv-loop μ-loop
 sub-left c = search needs
@@ -66,12 +66,12 @@ loop-again : tie.Need-loop-again Inv-loop μ-loop
 loop-again c =
     (search needs, past-block _ (c .before .before .before .before .loop .i) 64 _ (omega (arith, c .before .before .before .loop-test .taken, c .before .before .before .before .loop .inv .0)) (c .before .breaks-in .ensures) (c .if2 .left) ∙ c .before .before .before .before .loop .inv .1)
 
-past-bytes-requires-2 : tie.Need-past-bytes-requires-2 Inv-loop μ-loop
-past-bytes-requires-2 c κs = search needs
+past-lines-requires-2 : tie.Need-past-lines-requires-2 Inv-loop μ-loop
+past-lines-requires-2 c κs = search needs
 
 returns-3 : tie.Need-returns-3 Inv-loop μ-loop
 returns-3 c =
-    c .past-bytes2 .ensures ∙ c .before .before .loop .inv .1
+    c .past-lines2 .ensures ∙ c .before .before .loop .inv .1
 
 pub line-start-spec : {M : Type 1} → statement M
 line-start-spec =
@@ -88,11 +88,11 @@ line-start-spec =
     part-breaks-in-end
     breaks-in-requires
     cast-here
-    past-bytes-requires
+    past-lines-requires
     returns-2
     sub-left
     add-i
     loop-less
     loop-again
-    past-bytes-requires-2
+    past-lines-requires-2
     returns-3)
