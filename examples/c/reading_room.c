@@ -85,8 +85,13 @@ static void print_board(void)
 {
     printf("the board:\n");
     for (uint16_t folder = 0; folder < FOLDERS; folder++) {
+        hc_stretch name = find_name(folder);
+
         print_folder(folder);
-        printf(", as the %s calls it\n", find_name(folder).text == HC_TEXT_CLIENT ? "client" : "house");
+        if (name.number != HC_UNNAMED) {
+            printf(", as the %s calls it", name.text == HC_TEXT_CLIENT ? "client" : "house");
+        }
+        printf("\n");
     }
 }
 

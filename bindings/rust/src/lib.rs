@@ -64,7 +64,7 @@
 //! | the name to show for a folder | [`folder_name`] | `hc_folder_name` |
 //!
 //! Every answer has a method `number` with its number in the rules. An answer that stands for a refusal is an
-//! [`Error`](std::error::Error). A folder's name alone has no type of its own: it is a part of a text, or `None`, which is 81.
+//! [`Error`](std::error::Error). Only a folder's name has no type of its own: it is a part of a text, or `None`, which is 81.
 //!
 //! A folder number, a client number, a class number and a login number are four types, so that one given in another's place does
 //! not build:

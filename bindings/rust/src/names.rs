@@ -25,7 +25,7 @@ use crate::{ruled_out, sys, FolderNo};
 /// has at least one byte, and may hold every byte but 10: carriage returns and blanks are bytes like others, and nothing says that
 /// it is UTF-8.
 ///
-/// Nothing is copied, so a name lives no longer than both texts:
+/// Nothing is copied, so a name may be used only while both texts live:
 ///
 /// ```compile_fail,E0505
 /// # use housechervil::{folder_name, FolderNo};

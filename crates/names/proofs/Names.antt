@@ -5,12 +5,12 @@ use native.Mathlib.Omega.{arith}
 use mathlib.Core.Path.{_≡_, refl, sym, ap, _∙_}
 use mathlib.Core.Bool.{Bool, true, false, cond}
 use mathlib.Core.List.{List, [], _∷_}
-use lib.Dec.{eqb}
-use lib.ListN.{length, drop, take}
+use lib.ListN.{length}
 use Rattle.vocabulary.specs.Those.{some}
 use Rattle.vocabulary.proofs.Those.{some-none}
-use Rattle.names.specs.Lines.{lineSpan, lineFor}
-use Rattle.names.specs.Name.{nameOf, noStretch, nameShown, stretchOf}
+use Rattle.names.specs.Lines.{lineFor, lineSpan}
+use Rattle.names.specs.Name.{nameOf, nameShown, noStretch, stretchOf, textOf}
+use Rattle.names.specs.Claims.{bytesAt}
 use Rattle.names.specs.Part.{Part, namePart}
 use Rattle.names.specs.Scan.{cut}
 use Rattle.names.specs.declared.Span.{Span}
@@ -53,15 +53,11 @@ module _ (client house : List ℕ) (o : ℕ) where
 -- ---- where the name lies
 
 module _ (client house : List ℕ) (o : ℕ) where
-  -- The text that a stretch is of.
-  abbrev pub textOf : Stretch → List ℕ
-  textOf s = cond (eqb (s .text) 0) client house
-
   -- A stretch and a name: the bytes there are the name, they lie inside the text, and 81 says that there is none.
   Fit : Stretch → List ℕ → Type 0
   Fit s name =
-      (take (s .length) (drop (s .place) (textOf s)) ≡ name)
-      × (s .place + s .length ≤ length (textOf s))
+      (bytesAt s client house ≡ name)
+      × (s .place + s .length ≤ length (textOf s client house))
       × (s .number ≡ cond (some name) 0 81)
 
   -- Whichever of the two lines are empty.
@@ -76,7 +72,7 @@ module _ (client house : List ℕ) (o : ℕ) where
   unfolding nameShown nameOf
   nameShown-fit = fit-by (some (lineFor client o)) (some (lineFor house o)) refl refl
 
-  pub nameShown-lies : take (nameShown client house o .length) (drop (nameShown client house o .place) (textOf (nameShown client house o))) ≡ nameOf client house o
+  pub nameShown-lies : bytesAt (nameShown client house o) client house ≡ nameOf client house o
   unfolding Fit
   nameShown-lies = nameShown-fit .0
 
@@ -84,7 +80,7 @@ module _ (client house : List ℕ) (o : ℕ) where
   unfolding Fit
   nameShown-number = nameShown-fit .2
 
-  pub stretch-fits : {s : Stretch} → s ≡ nameShown client house o → s .place + s .length ≤ length (textOf s)
+  pub stretch-fits : {s : Stretch} → s ≡ nameShown client house o → s .place + s .length ≤ length (textOf s client house)
   unfolding Fit
   stretch-fits e = rw e (nameShown-fit .1)
 
@@ -94,7 +90,7 @@ cond-bytes client house false = refl
 
 -- Cut where the stretch says that is shown, a text has the name's part.
 pub cut-nameShown : (client house : Part) (o : ℕ) {s : Stretch} → s ≡ nameShown (client .bytes) (house .bytes) o
-    → cut (cond (eqb (s .text) 0) client house) (s .place) (s .length) ≡ namePart client house o
+    → cut (textOf s client house) (s .place) (s .length) ≡ namePart client house o
 cut-nameShown client house o e = rw e (rw (cond-bytes client house _, nameShown-lies (client .bytes) (house .bytes) o))
 
 -- No byte, as the code cuts it.

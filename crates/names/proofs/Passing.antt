@@ -1,4 +1,4 @@
--- Laws of passing over a text, byte by byte and in blocks.
+-- Laws of passing over a text, byte by byte, line by line and in blocks.
 use Prim.Native.Nat.{ℕ, zero, suc, _+_, _-_, _≤_, _<_}
 use native.Mathlib.Numerals.{add-one}
 use native.Mathlib.Nat.{zero-add, add-zero, suc-add, sub-zero, sub-add-eq, add-assoc, add-sub-cancel-left, min-eq-left, min-eq-right}

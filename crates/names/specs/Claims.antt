@@ -3,12 +3,12 @@ use Prim.Native.Nat.{ℕ, suc, min}
 use mathlib.Core.Bool.{cond, false}
 use mathlib.Core.List.{List, [], _∷_, _++_}
 use mathlib.Core.Path.{_≡_}
-use lib.Dec.{eqb}
 use lib.ListN.{length, take, drop}
 use Rattle.vocabulary.specs.Those.{member, some}
 use Rattle.line_numbers.specs.LineNumber.{ended}
 use Rattle.names.specs.Lines.{lineFor, lines, lineStart}
-use Rattle.names.specs.Name.{nameOf, nameShown}
+use Rattle.names.specs.Name.{nameOf, nameShown, textOf}
+use Rattle.names.specs.declared.Stretch.{Stretch}
 
 -- Lines joined by byte 10.
 unfoldable pub joinedLines : List (List ℕ) → List ℕ
@@ -29,9 +29,12 @@ pub record LinesExact : Type 0 where
   -- and what lies there, for as many bytes as the line has, is the line.
   pub lies : (text : List ℕ) (o : ℕ) → take (length (lineFor text o)) (drop (lineStart text o) text) ≡ lineFor text o
 
+-- What lies at a stretch.
+abbrev pub bytesAt : Stretch → List ℕ → List ℕ → List ℕ
+bytesAt s client house = take (s .length) (drop (s .place) (textOf s client house))
+
 pub record NameExact (client house : List ℕ) (o : ℕ) : Type 0 where
   -- What lies at the stretch that is told is the name,
-  pub lies : take (nameShown client house o .length) (drop (nameShown client house o .place) (cond (eqb (nameShown client house o .text) 0) client house))
-      ≡ nameOf client house o
+  pub lies : bytesAt (nameShown client house o) client house ≡ nameOf client house o
   -- and the stretch's number is 81 just where the name is empty.
   pub number : nameShown client house o .number ≡ cond (some (nameOf client house o)) 0 81

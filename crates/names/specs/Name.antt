@@ -2,6 +2,7 @@
 use Prim.Native.Nat.{ℕ}
 use mathlib.Core.Bool.{cond}
 use mathlib.Core.List.{List}
+use lib.Dec.{eqb}
 use Rattle.vocabulary.specs.Those.{some}
 use Rattle.names.specs.Lines.{lineFor, lineSpan}
 use Rattle.names.specs.declared.Span.{Span}
@@ -22,6 +23,10 @@ stretchOf text span =
       place = span .place;
       length = span .length;
     }
+
+-- Of two texts, the client's and the house's, the one that a stretch is of.
+abbrev pub textOf : {A : Type 0} → Stretch → A → A → A
+textOf s client house = cond (eqb (s .text) 0) client house
 
 -- '81, as an empty stretch.'
 abbrev pub noStretch : Stretch

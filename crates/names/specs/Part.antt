@@ -1,10 +1,8 @@
 -- 'Nothing copied' (document 02, C-11): the name is a part of a lent text, where it lies.
 use Prim.Native.Nat.{ℕ, _+_}
-use mathlib.Core.Bool.{cond}
 use mathlib.Core.List.{List}
-use lib.Dec.{eqb}
 use denote.Ref.{RefT}
-use Rattle.names.specs.Name.{nameOf, nameShown}
+use Rattle.names.specs.Name.{nameOf, nameShown, textOf}
 use Rattle.names.specs.declared.Stretch.{Stretch}
 
 -- Bytes in memory: the block of memory that they are in, the place of the first in that block, and the bytes.
@@ -27,7 +25,7 @@ partOf slice =
 abbrev pub namePart : Part → Part → ℕ → Part
 namePart client house o =
     let found : Stretch = nameShown (client .bytes) (house .bytes) o in
-    let text : Part = cond (eqb (found .text) 0) client house in
+    let text : Part = textOf found client house in
     record {
       block = text .block;
       start = text .start + found .place;

@@ -1,4 +1,4 @@
-// A text passed over. Blocks of 64 bytes go without a branch inside, so that a compiler judges many bytes by one instruction.
+// A text passed over. Blocks of 64 bytes go without a branch inside, so that the compiled code judges many bytes by one instruction.
 ghost use Prim.Native.Nat.{_≤_, min};
 ghost use mathlib.Core.Path.{_≡_};
 ghost use lib.ListN.{length};
