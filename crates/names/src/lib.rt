@@ -80,6 +80,7 @@ pub fn folder_name<'a>(client: &'a [u8], house: &'a [u8], folder: FolderNo) -> &
     }
 }
 
+// A name of the text that has this number.
 fn of_text(text: u16, span: Span) -> Stretch
     ensures { λ r. ⌜ r ≡ stretchOf text span ⌝ }
 {
