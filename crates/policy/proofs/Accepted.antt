@@ -1,22 +1,19 @@
--- What an accepted register gives: the two zeros stand together, one client has one class; so its classes make a lawful wall.
+-- What an accepted register gives: the two zeros stand together, one client has one class; in pair mode each pair names two clients.
 use Prim.Native.Nat.{ℕ, _<_, _≤_}
 use mathlib.Core.Path.{_≡_, refl, sym, ap, _∙_}
-use mathlib.Core.Logic.{_⊎_, inl, inr, ⊎-elim}
-use mathlib.Core.Bool.{Bool, true, false, not, _&&_}
+use mathlib.Core.Bool.{Bool, true, false, not, _&&_, _||_}
 use mathlib.Core.List.{List, [], _∷_, _++_}
 use native.Mathlib.Omega.{arith}
 use native.Mathlib.Decide.{ℕ-discrete, decLt}
 use lib.ListN.{length}
-use lib.Dec.{eqb, leb}
+use lib.Dec.{eqb, leb, ltb}
 use borrow.Author.Tests.{eq-eqb, ne-eqb, eqb-true, eqb-false, not-false, leb-true}
 use Rattle.vocabulary.specs.Answer.{answer, judge}
 use Rattle.vocabulary.specs.Those.{those, some}
 use Rattle.vocabulary.proofs.Those.{those-empty, some-none}
 use Rattle.vocabulary.proofs.Judge.{Passed, judge-silent}
-use Rattle.vocabulary.proofs.Bools.{both, not-both, eqb-self}
-use Rattle.register.specs.Register.{Register, folders, classOf, clientOf, inRange, loneZero, differs, earlier, later, registerChecks, registerAnswer, Accepted}
-use Rattle.policy.specs.Wall.{OneClass, classWall}
-use Rattle.policy.proofs.Wall.{Lawful}
+use Rattle.vocabulary.proofs.Bools.{not-both, neither}
+use Rattle.register.specs.Register.{Register, folders, classOf, clientOf, inRange, loneZero, differs, earlier, later, pairs, badPair, badPairs, registerChecks, registerAnswer, Accepted}
 
 passed : (r : Register) → Accepted r → Passed (registerChecks r)
 unfolding registerAnswer registerChecks
@@ -63,25 +60,10 @@ module _ (r : Register) (ok : Accepted r) where
         | no j ↦ elim (ℕ-discrete f g) [ yes k ↦ ap (classOf r) k | no k ↦ sym (alike-class f g h (omega arith) (sym e)) ]
       ]
 
-  pub lawful : Lawful (classWall r)
-  lawful =
-      record {
-        irreflexive = λ c p. p .two refl;
-        symmetric = λ c d p.
-            record {
-              one = p .other;
-              other = p .one;
-              one-known = p .other-known;
-              other-known = p .one-known;
-              one-client = p .other-client;
-              other-client = p .one-client;
-              one-class = sym (p .one-class);
-              two = λ e. p .two (sym e);
-            };
-      }
-
-  -- Clients in conflict: the classes of any two folders of theirs are one.
-  pub conflict-class : (f g : ℕ) → f < folders r → g < folders r → OneClass r (clientOf r f) (clientOf r g) → classOf r f ≡ classOf r g
-  conflict-class f g h i p =
-      one-class f (p .one) h (p .one-known) (sym (p .one-client))
-      ∙ (p .one-class ∙ one-class (p .other) g (p .other-known) i (p .other-client))
+  -- Refusal 11 passed: in pair mode no pair names client 0 or one client twice.
+  pub pair-sound : r .byPairs ≡ true → (i : ℕ) → i < pairs r → badPair r i ≡ false
+  unfolding registerChecks badPairs
+  pair-sound mode i h =
+      let bad = rw mode at (passed r ok .1 .1 .1 .0) in
+      let sizes = not (eqb (pairs r) (length (r .seconds))) || ltb 256 (pairs r) in
+      those-empty (badPair r) (pairs r) (some-none _ (neither sizes (some (those (badPair r) (pairs r))) bad .1)) i h

@@ -10,23 +10,23 @@ use borrow.Author.Tests.{eqb-true, not-false, leb-false}
 use Rattle.vocabulary.specs.Answer.{Answer, answer}
 use Rattle.vocabulary.proofs.Judge.{Passed, passed-append}
 use Rattle.vocabulary.proofs.Bools.{not-both, true-or-false, neither}
-use Rattle.register.specs.Register.{Register, folders, classOf, clientOf, registerChecks, Accepted}
+use Rattle.register.specs.Register.{Register, folders, clientOf, registerChecks, Accepted}
 use Rattle.policy.specs.Rules.{rowOf, withRow, cell, canRead, canWrite, reads, writes, rival, foreign, atStake, lost, rowAfter}
 use Rattle.policy.specs.Outcome.{Request, Log, outcome, requestChecks, wallChecks, wallAnswer, byWall, isLogged, matrixAfter}
-use Rattle.policy.specs.Wall.{Rights, Needful, OneClass, classWall, joined, afterGrant}
+use Rattle.policy.specs.Wall.{Rights, Needful, Conflict, wallOf, joined, afterGrant}
 use Rattle.policy.specs.History.{Step, ask, make, State, blank, rightsAfter, next, run}
 use Rattle.policy.specs.Demand3.{Shows, Demand3}
-use Rattle.policy.proofs.Accepted.{lawful, class-zero, client-zero, conflict-class}
+use Rattle.policy.proofs.Conflict.{tells, lawful, conflict-of, conflict-told}
 use Rattle.policy.proofs.Wall.{Clean, Contained, Grantable, unbroken, used-kept, more-kept, grant-clean, joined-read, joined-write, asked-read, asked-write, meets, strays}
 use Rattle.policy.proofs.Outcome.{met, Decided, outcome-cases}
-use Rattle.policy.proofs.Rules.{kind-asks, rival-found, foreign-found, stake-found, rival-read, rival-class, rival-other, foreign-read, foreign-unsanitised, foreign-other, stake-write, stake-other, stake-unsanitised, no-rivals, no-foreigners, stake-lost, wall-granted, InTheWay, in-the-way}
+use Rattle.policy.proofs.Rules.{kind-asks, rival-found, foreign-found, stake-found, rival-read, rival-conflict, foreign-read, foreign-unsanitised, foreign-other, stake-write, stake-other, stake-unsanitised, no-rivals, no-foreigners, stake-lost, wall-granted, InTheWay, in-the-way}
 use Rattle.policy.proofs.Shown.{blank-shown, shown-read, shown-write, read-known, write-known, grant-length, grant-cells}
 
 -- What every state of a history keeps.
 pub record Kept (r : Register) (σ : State) : Type 0 where
   pub shown : Shows r σ
-  pub clean : Clean (classWall r) (σ .rights)
-  pub held : Contained (classWall r) (σ .rights) (σ .held)
+  pub clean : Clean (wallOf r) (σ .rights)
+  pub held : Contained (wallOf r) (σ .rights) (σ .held)
 
 blank-kept : (r : Register) → Kept r (blank r)
 blank-kept r =
@@ -91,63 +91,43 @@ module _ (r : Register) (ok : Accepted r) (σ : State) (kept : Kept r σ) (q : R
     stands-write : canWrite (cell row f) ≡ true → k .write s f ≡ true
     stands-write e = joined-write (σ .rights) s o (q .kind) s f (sym (shown-write r σ (kept .shown) s f) ∙ e)
 
-    rival-needful : f < folders r → rival r row o f ≡ true → Needful (classWall r) (σ .rights) (σ .held) s o (q .kind)
+    rival-needful : f < folders r → rival r row o f ≡ true → Needful (wallOf r) (σ .rights) (σ .held) s o (q .kind)
     rival-needful h e = ⊎-elim reading-both writing-one (kind-asks (q .kind) kind-known)
       where
-        class : classOf r f ≡ classOf r o
-        class = rival-class r row o f e
-
-        other : clientOf r f ≡ clientOf r o → ⊥
-        other = rival-other r row o f e
+        clash : Conflict r (clientOf r f) (clientOf r o)
+        clash = conflict-of r ok f o h here (rival-conflict r row o f e)
 
         stands : k .read s f ≡ true
         stands = stands-read (rival-read r row o f e)
 
-        f-real : clientOf r f ≡ 0 → ⊥
-        f-real z = other (z ∙ sym (class-zero r ok o here (sym class ∙ client-zero r ok f h z)))
-
-        o-real : clientOf r o ≡ 0 → ⊥
-        o-real z = other (class-zero r ok f h (class ∙ client-zero r ok o here z) ∙ sym z)
-
-        clash : OneClass r (clientOf r f) (clientOf r o)
-        clash =
-            record {
-              one = f;
-              other = o;
-              one-known = h;
-              other-known = here;
-              one-client = refl;
-              other-client = refl;
-              one-class = class;
-              two = other;
-            }
-
-        reading-both : reads (q .kind) ≡ true → Needful (classWall r) (σ .rights) (σ .held) s o (q .kind)
+        reading-both : reads (q .kind) ≡ true → Needful (wallOf r) (σ .rights) (σ .held) s o (q .kind)
         reading-both a =
-            meets (classWall r) k (σ .held) s (kept .held .own-held) f o stands (asked-read (σ .rights) s o (q .kind) a) f-real o-real clash
+            meets (wallOf r) k (σ .held) s (kept .held .own-held) (lawful r ok) f o stands (asked-read (σ .rights) s o (q .kind) a) clash
 
-        writing-one : writes (q .kind) ≡ true → Needful (classWall r) (σ .rights) (σ .held) s o (q .kind)
+        writing-one : writes (q .kind) ≡ true → Needful (wallOf r) (σ .rights) (σ .held) s o (q .kind)
         writing-one a =
-            strays (classWall r) k (σ .held) s (kept .held .own-held) f o stands (asked-write (σ .rights) s o (q .kind) a) f-real other
+            strays (wallOf r) k (σ .held) s (kept .held .own-held) f o stands (asked-write (σ .rights) s o (q .kind) a)
+            (lawful r ok .real _ _ clash)
+            (tells r ok .two f o (rival-conflict r row o f e))
 
-    foreign-needful : foreign r row o f ≡ true → writes (q .kind) ≡ true → Needful (classWall r) (σ .rights) (σ .held) s o (q .kind)
+    foreign-needful : foreign r row o f ≡ true → writes (q .kind) ≡ true → Needful (wallOf r) (σ .rights) (σ .held) s o (q .kind)
     foreign-needful e kind =
-        strays (classWall r) k (σ .held) s (kept .held .own-held) f o
+        strays (wallOf r) k (σ .held) s (kept .held .own-held) f o
         (stands-read (foreign-read r row o f e))
         (asked-write (σ .rights) s o (q .kind) kind)
         (foreign-unsanitised r row o f e)
         (foreign-other r row o f e)
 
-    stake-needful : atStake r row o f ≡ true → reads (q .kind) ≡ true → Needful (classWall r) (σ .rights) (σ .held) s o (q .kind)
+    stake-needful : atStake r row o f ≡ true → reads (q .kind) ≡ true → Needful (wallOf r) (σ .rights) (σ .held) s o (q .kind)
     stake-needful e kind =
-        strays (classWall r) k (σ .held) s (kept .held .own-held) o f
+        strays (wallOf r) k (σ .held) s (kept .held .own-held) o f
         (asked-read (σ .rights) s o (q .kind) kind)
         (stands-write (stake-write r row o f e))
         (stake-unsanitised r row o f e)
         (λ z. stake-other r row o f e (sym z))
 
   -- A refusal by the wall is needful: a folder stands in the way.
-  refusal-needful : byWall (wallAnswer r row o (q .kind)) ≡ true → Needful (classWall r) (σ .rights) (σ .held) s o (q .kind)
+  refusal-needful : byWall (wallAnswer r row o (q .kind)) ≡ true → Needful (wallOf r) (σ .rights) (σ .held) s o (q .kind)
   refusal-needful e = by-sort (w .sort)
     where
       w : InTheWay r row o (q .kind)
@@ -155,7 +135,7 @@ module _ (r : Register) (ok : Accepted r) (σ : State) (kept : Kept r σ) (q : R
 
       by-sort : (rival r row o (w .folder) ≡ true)
           ⊎ (((writes (q .kind) ≡ true) × (foreign r row o (w .folder) ≡ true)) ⊎ ((q .kind ≡ 2) × (atStake r row o (w .folder) ≡ true)))
-          → Needful (classWall r) (σ .rights) (σ .held) s o (q .kind)
+          → Needful (wallOf r) (σ .rights) (σ .held) s o (q .kind)
       by-sort (inl a) = rival-needful (w .folder) (w .known) a
       by-sort (inr (inl a)) = foreign-needful (w .folder) (a .1) (a .0)
       by-sort (inr (inr a)) = stake-needful (w .folder) (a .1) (rw (a .0))
@@ -163,12 +143,12 @@ module _ (r : Register) (ok : Accepted r) (σ : State) (kept : Kept r σ) (q : R
   -- ---- a grant
 
   module _ (clear : Passed (wallChecks r row o (q .kind))) where
-    grantable : Grantable (classWall r) (σ .rights) s o (q .kind) (lost r row o (q .kind))
+    grantable : Grantable (wallOf r) (σ .rights) s o (q .kind) (lost r row o (q .kind))
     grantable =
         record {
           no-rival = λ w f a c.
               let h = read-known r σ (kept .shown) s f a in
-              not-both (rival-found r row o f (readable f a) (conflict-class r ok f o h here c) (c .two)) (no-rivals r row o (q .kind) clear f h);
+              not-both (rival-found r row o f (readable f a) (conflict-told r ok f o h here c)) (no-rivals r row o (q .kind) clear f h);
           no-foreign = λ w f a z.
               elim (ℕ-discrete (clientOf r f) (clientOf r o)) [
                 | yes e ↦ e
@@ -201,8 +181,8 @@ module _ (r : Register) (ok : Accepted r) (σ : State) (kept : Kept r σ) (q : R
                 whole = grant-length r σ (kept .shown) s o (q .kind) known here;
                 cells = grant-cells r σ (kept .shown) s o (q .kind) known here;
               };
-          clean = grant-clean (classWall r) (σ .rights) s o (q .kind) (lost r row o (q .kind)) (lawful r ok) (kept .clean) grantable;
-          held = more-kept (classWall r) (σ .rights) _ (σ .held) (λ t f e. rw e) (kept .held);
+          clean = grant-clean (wallOf r) (σ .rights) s o (q .kind) (lost r row o (q .kind)) (lawful r ok) (kept .clean) grantable;
+          held = more-kept (wallOf r) (σ .rights) _ (σ .held) (λ t f e. rw e) (kept .held);
         }
 
   -- A request that the wall answered keeps the state.
@@ -235,7 +215,7 @@ next-kept r ok σ kept (make u) =
             cells = kept .shown .cells;
           };
       clean = kept .clean;
-      held = used-kept (classWall r) (σ .rights) (σ .held) u (kept .clean) (kept .held);
+      held = used-kept (wallOf r) (σ .rights) (σ .held) u (kept .clean) (kept .held);
     }
 next-kept r ok σ kept (ask q log) =
     ⊎-elim
@@ -253,7 +233,7 @@ run-kept r ok σ kept (x ∷ xs) = run-kept r ok (next r σ x) (next-kept r ok �
 
 -- A refusal by the wall, in any state that is kept, is needful.
 refused-needful : (r : Register) → Accepted r → (σ : State) → Kept r σ → (q : Request) (log : Log) →
-    byWall (outcome r (σ .matrix) q log .answer) ≡ true → Needful (classWall r) (σ .rights) (σ .held) (q .login) (q .folder) (q .kind)
+    byWall (outcome r (σ .matrix) q log .answer) ≡ true → Needful (wallOf r) (σ .rights) (σ .held) (q .login) (q .folder) (q .kind)
 refused-needful r ok σ kept q log e =
     ⊎-elim
     (λ d. refusal-needful r ok σ kept q log d (rw (d .answered) at e))
@@ -271,7 +251,7 @@ pub demand3 : Demand3
 demand3 r ok steps =
     let σ = kept-after r ok in
     record {
-      unbroken = unbroken (classWall r) _ _ (σ steps .clean) (σ steps .held);
+      unbroken = unbroken (wallOf r) _ _ (σ steps .clean) (σ steps .held);
       shown = σ steps .shown;
       needful = λ before rest q log e. refused-needful r ok (run r (blank r) before) (σ before) q log;
     }

@@ -1,5 +1,6 @@
 pub mod Wall
 pub mod Accepted
+pub mod Conflict
 pub mod Rows
 pub mod Rules
 pub mod Outcome

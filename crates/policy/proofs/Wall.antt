@@ -11,10 +11,11 @@ use Rattle.vocabulary.proofs.Bools.{both, either, not-both, eqb-self}
 use Rattle.policy.specs.Rules.{reads, writes}
 use Rattle.policy.specs.Wall.{Wall, Own, Rights, joined, asked, afterGrant, Held, Use, reading, writing, used, TwoHeld, Strayed, Broken, Breaks, Needful}
 
--- What the argument asks of a notion of conflict.
+-- What the argument asks of a notion of conflict: no client is in conflict with itself, conflict goes both ways, and 0 is no client.
 pub record Lawful (w : Wall) : Type 0 where
   pub irreflexive : (c : ℕ) → w .conflict c c → ⊥
   pub symmetric : (c d : ℕ) → w .conflict c d → w .conflict d c
+  pub real : (c d : ℕ) → w .conflict c d → c ≡ 0 → ⊥
 
 -- Rights under which no use breaks the wall: what a login may read is free of conflict, and where it may write a folder, every unsanitised
 -- folder that it may read has that folder's client.
@@ -160,10 +161,9 @@ asked-write k s o kind e = rw (eqb-self s, eqb-self o, e, or-true)
 
 module _ (w : Wall) (k : Rights) (h : Held) (s : ℕ) (own-held : (f c : ℕ) → Own w f c → h .folder f c) where
   -- A login that may read two folders whose clients are in conflict can break the wall.
-  pub meets : (f g : ℕ) → k .read s f ≡ true → k .read s g ≡ true → (w .own f ≡ 0 → ⊥) → (w .own g ≡ 0 → ⊥) →
-      w .conflict (w .own f) (w .own g) → Breaks w k h s
+  pub meets : Lawful w → (f g : ℕ) → k .read s f ≡ true → k .read s g ≡ true → w .conflict (w .own f) (w .own g) → Breaks w k h s
   unfolding used
-  meets f g a b y z c =
+  meets lawful f g a b c =
       record {
         first = f;
         second = g;
@@ -176,8 +176,8 @@ module _ (w : Wall) (k : Rights) (h : Held) (s : ℕ) (own-held : (f c : ℕ) �
                     login = s;
                     one = w .own f;
                     other = w .own g;
-                    holds-one = inl (inr (refl, a, own-held f (w .own f) (refl, y)));
-                    holds-other = inr (refl, b, own-held g (w .own g) (refl, z));
+                    holds-one = inl (inr (refl, a, own-held f (w .own f) (refl, lawful .real (w .own f) (w .own g) c)));
+                    holds-other = inr (refl, b, own-held g (w .own g) (refl, lawful .real (w .own g) (w .own f) (lawful .symmetric (w .own f) (w .own g) c)));
                     in-conflict = c;
                   }),
             );

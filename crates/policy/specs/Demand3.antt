@@ -1,4 +1,4 @@
--- Demand 3 (document 01, 'Who holds what'): no sequence of requests and uses breaks the wall, the matrix shows just the rights that
+-- Demand 3 (document 01, 'Who holds what'; document 02, C-12): no sequence of requests and uses breaks the wall, the matrix shows just the rights that
 -- stand, and no 20, 21 or 22 is given needlessly.
 use Prim.Native.Nat.{ℕ, _*_}
 use mathlib.Core.Path.{_≡_}
@@ -8,7 +8,7 @@ use lib.ListN.{length}
 use Rattle.register.specs.Register.{Register, Accepted, folders}
 use Rattle.policy.specs.Rules.{rowOf, cell, cellFor}
 use Rattle.policy.specs.Outcome.{Request, Log, byWall, outcome}
-use Rattle.policy.specs.Wall.{Rights, Broken, Needful, classWall}
+use Rattle.policy.specs.Wall.{Rights, Broken, Needful, wallOf}
 use Rattle.policy.specs.History.{Step, ask, State, blank, run}
 
 -- The cell of the rights that stand of s on f.
@@ -27,14 +27,14 @@ NeedfulRefusals r steps =
     (before rest : List Step) (q : Request) (log : Log) →
     steps ≡ before ++ (ask q log ∷ rest) →
     byWall (outcome r (run r (blank r) before .matrix) q log .answer) ≡ true →
-    Needful (classWall r) (run r (blank r) before .rights) (run r (blank r) before .held) (q .login) (q .folder) (q .kind)
+    Needful (wallOf r) (run r (blank r) before .rights) (run r (blank r) before .held) (q .login) (q .folder) (q .kind)
 
 -- What holds after a list of steps.
 pub record Safe (r : Register) (steps : List Step) : Type 0 where
-  pub unbroken : Broken (classWall r) (run r (blank r) steps .held) → ⊥
+  pub unbroken : Broken (wallOf r) (run r (blank r) steps .held) → ⊥
   pub shown : Shows r (run r (blank r) steps)
   pub needful : NeedfulRefusals r steps
 
--- Demand 3, whole: of every accepted register and every list of steps.
+-- Demand 3, whole: of every accepted register, by classes or by pairs, which is kept throughout, and every list of steps.
 abbrev pub Demand3 : Type 0
 Demand3 = (r : Register) → Accepted r → (steps : List Step) → Safe r steps

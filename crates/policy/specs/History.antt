@@ -7,7 +7,7 @@ use lib.Dec.{eqb}
 use Rattle.vocabulary.specs.Answer.{Answer}
 use Rattle.register.specs.Register.{Register, folders}
 use Rattle.policy.specs.Outcome.{Request, Log, outcome}
-use Rattle.policy.specs.Wall.{Rights, noRights, afterGrant, Held, atFirst, Use, used, classWall}
+use Rattle.policy.specs.Wall.{Rights, noRights, afterGrant, Held, atFirst, Use, used, wallOf}
 
 -- A step: a request, with any log handed to it, or a use.
 pub data Step : Type 0 where
@@ -26,7 +26,7 @@ blank r =
     record {
       matrix = replicate (r .logins * folders r) 0;
       rights = noRights;
-      held = atFirst (classWall r);
+      held = atFirst (wallOf r);
     }
 
 -- The rights that stand after an answer to a request: only a grant, number 0, moves them.

@@ -1,4 +1,4 @@
--- The matrix and the four kinds of request (document 01, 'The matrix' and 'The four kinds of request').
+-- The matrix and the four kinds of request (document 01, 'The matrix' and 'The four kinds of request'; document 02, C-12, for a rival).
 use Prim.Native.Nat.{ℕ, _+_, _*_, _%_}
 use mathlib.Core.Bool.{Bool, cond, not, _&&_, _||_}
 use mathlib.Core.List.{List, _++_}
@@ -6,7 +6,8 @@ use lib.ListN.{getD, take, drop}
 use lib.Dec.{leb, eqb}
 use Rattle.vocabulary.specs.Those.{those}
 use Rattle.vocabulary.specs.Each.{each}
-use Rattle.register.specs.Register.{Register, folders, classOf, clientOf, sanitised}
+use Rattle.register.specs.Register.{Register, folders, clientOf, sanitised}
+use Rattle.register.specs.Conflict.{inConflict}
 
 -- ---- the matrix: P times F bytes, login by login
 
@@ -45,10 +46,9 @@ writes kind = eqb kind 3 || eqb kind 4
 abbrev pub revokes : ℕ → Bool
 revokes kind = eqb kind 1 || eqb kind 4
 
--- Rival: a folder that s may read, of o's class and of another client.
+-- Rival: a folder that s may read, by classes of o's class and of another client, by pairs 'of a client in conflict with the one asked for'.
 abbrev pub rival : Register → List ℕ → ℕ → ℕ → Bool
-rival r row o f =
-    canRead (cell row f) && eqb (classOf r f) (classOf r o) && not (eqb (clientOf r f) (clientOf r o))
+rival r row o f = canRead (cell row f) && inConflict r f o
 
 -- Foreign: a folder that s may read, not sanitised, whose client is not o's client.
 abbrev pub foreign : Register → List ℕ → ℕ → ℕ → Bool

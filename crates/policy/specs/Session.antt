@@ -4,7 +4,7 @@ use mathlib.Core.Path.{_≡_}
 use mathlib.Core.Bool.{cond}
 use mathlib.Core.List.{List, [], _∷_}
 use lib.ListN.{replicate, take, drop}
-use Rattle.register.specs.Register.{Register}
+use Rattle.register.specs.Register.{Register, registerOf}
 use Rattle.policy.specs.Outcome.{Request, Log, Outcome, outcome, isLogged}
 
 -- A printed line: serial, answer and its folder list, or `-` and the number of a request that was not logged.
@@ -45,12 +45,7 @@ request kind login folder =
 
 -- `P 2`, `F 0 0`, `F 1 1`, `F 1 2`, `F 2 3`, `F 1 1`
 abbrev pub tableRegister : Register
-tableRegister =
-    record {
-      logins = 2;
-      classes = 0 ∷ 1 ∷ 1 ∷ 2 ∷ 1 ∷ [];
-      clients = 0 ∷ 1 ∷ 2 ∷ 3 ∷ 1 ∷ [];
-    }
+tableRegister = registerOf 2 (0 ∷ 1 ∷ 1 ∷ 2 ∷ 1 ∷ []) (0 ∷ 1 ∷ 2 ∷ 3 ∷ 1 ∷ [])
 
 abbrev pub tableRequests : List Request
 tableRequests =

@@ -1,4 +1,4 @@
--- The wall over a bare notion of conflict between clients, and who holds what (document 01, 'Who holds what').
+-- The wall over a bare notion of conflict between clients, and who holds what (document 01, 'Who holds what'; document 02, C-12).
 use Prim.Native.Nat.{ℕ, _<_}
 use mathlib.Core.Path.{_≡_}
 use mathlib.Core.Logic.{_⊎_}
@@ -6,7 +6,8 @@ use mathlib.Core.Bool.{Bool, true, false, _&&_, _||_, not}
 use mathlib.Core.List.{List}
 use lib.Dec.{eqb}
 use Rattle.vocabulary.specs.Those.{member}
-use Rattle.register.specs.Register.{Register, folders, classOf, clientOf}
+use Rattle.register.specs.Register.{Register, folders, clientOf}
+use Rattle.register.specs.Conflict.{inConflict}
 use Rattle.policy.specs.Rules.{reads, writes}
 
 -- A wall: each folder's client, 0 for a sanitised folder, and which clients are in conflict.
@@ -104,7 +105,7 @@ pub record Strayed (w : Wall) (h : Held) : Type 0 where
   pub holds : h .folder folder client
   pub not-own : Own w folder client → ⊥
 
--- 'The wall is broken if a login holds two clients of one class, or a folder a client not its own.'
+-- 'The wall is broken if a login holds two clients of one class', by document 02, C-12, 'two clients in conflict', 'or a folder a client not its own'.
 abbrev pub Broken : Wall → Held → Type 0
 Broken w h = TwoHeld w h ⊎ Strayed w h
 
@@ -122,22 +123,21 @@ pub record Breaks (w : Wall) (k : Rights) (h : Held) (s : ℕ) : Type 0 where
 abbrev pub Needful : Wall → Rights → Held → ℕ → ℕ → ℕ → Type 0
 Needful w k h s o kind = Breaks w (joined k s o kind) h s
 
--- ---- the wall by classes
+-- ---- the wall of a register
 
--- Two clients of one class.
-pub record OneClass (r : Register) (c d : ℕ) : Type 0 where
+-- Clients c and d are in conflict: the register has a folder of each, and these are of clients in conflict, by classes or by pairs.
+pub record Conflict (r : Register) (c d : ℕ) : Type 0 where
   pub one : ℕ
   pub other : ℕ
   pub one-known : one < folders r
   pub other-known : other < folders r
   pub one-client : clientOf r one ≡ c
   pub other-client : clientOf r other ≡ d
-  pub one-class : classOf r one ≡ classOf r other
-  pub two : c ≡ d → ⊥
+  pub clash : inConflict r one other ≡ true
 
-abbrev pub classWall : Register → Wall
-classWall r =
+abbrev pub wallOf : Register → Wall
+wallOf r =
     record {
       own = clientOf r;
-      conflict = OneClass r;
+      conflict = Conflict r;
     }

@@ -1,27 +1,39 @@
--- The register and the rows of the refusal table that judge it (document 01, 'The register' and 'Where each refusal is checked').
+-- The register and the rows of the refusal table that judge it (document 01, 'The register' and 'Where each refusal is checked'; document 02, C-12).
 use Prim.Native.Nat.{ℕ}
 use mathlib.Core.Path.{_≡_}
-use mathlib.Core.Bool.{Bool, true, false, not, _&&_}
+use mathlib.Core.Bool.{Bool, true, false, not, _&&_, _||_}
 use mathlib.Core.List.{List, [], _∷_}
 use lib.ListN.{length, getD}
-use lib.Dec.{leb, eqb}
+use lib.Dec.{leb, ltb, eqb}
 use Rattle.vocabulary.specs.Answer.{Answer, Check, answer, check, judge}
 use Rattle.vocabulary.specs.Those.{those, some, smallest}
 
--- The register: the number of logins, and each folder's class and client in folder order.
+-- The register: the number of logins, each folder's class and client in folder order, the wall's mode, and pairs of clients, in two lists.
 pub record Register : Type 0 where
   -- P
   pub logins : ℕ
   pub classes : List ℕ
   pub clients : List ℕ
+  -- The mode: conflicts by pairs, or by classes.
+  pub byPairs : Bool
+  pub firsts : List ℕ
+  pub seconds : List ℕ
 
-abbrev pub registerOf : ℕ → List ℕ → List ℕ → Register
-registerOf logins classes clients =
+-- A register in either mode.
+abbrev pub registerBy : ℕ → List ℕ → List ℕ → Bool → List ℕ → List ℕ → Register
+registerBy logins classes clients byPairs firsts seconds =
     record {
       logins = logins;
       classes = classes;
       clients = clients;
+      byPairs = byPairs;
+      firsts = firsts;
+      seconds = seconds;
     }
+
+-- A register by classes, as document 01 has it.
+abbrev pub registerOf : ℕ → List ℕ → List ℕ → Register
+registerOf logins classes clients = registerBy logins classes clients false [] []
 
 -- F, the number of folders.
 abbrev pub folders : Register → ℕ
@@ -66,12 +78,31 @@ later r = those (λ f. some (earlier r f)) (folders r)
 abbrev pub twoClasses : Register → Check
 twoClasses r = check (some (later r)) 3 (smallest (later r) ∷ smallest (earlier r (smallest (later r))) ∷ [])
 
--- The table's rows for the register. Refusal 2 is sought through the whole register before 3.
+-- How many pairs there are, and the two clients of a pair.
+abbrev pub pairs : Register → ℕ
+pairs r = length (r .firsts)
+
+abbrev pub firstAt : Register → ℕ → ℕ
+firstAt r i = getD (r .firsts) i 0
+
+abbrev pub secondAt : Register → ℕ → ℕ
+secondAt r i = getD (r .seconds) i 0
+
+-- 'A pair naming client 0 or one client twice.'
+abbrev pub badPair : Register → ℕ → Bool
+badPair r i = eqb (firstAt r i) 0 || eqb (secondAt r i) 0 || eqb (firstAt r i) (secondAt r i)
+
+-- Refusal 11: 'lists of unequal length, over 256 pairs, a pair naming client 0 or one client twice'.
+unfoldable pub badPairs : Register → Bool
+badPairs r = not (eqb (pairs r) (length (r .seconds))) || ltb 256 (pairs r) || some (those (badPair r) (pairs r))
+
+-- The table's rows for the register. Refusal 2 is sought through the whole register before 3; 'in pair mode the register check, after 3, gives 11'.
 unfoldable pub registerChecks : Register → List Check
 registerChecks r =
     check (not (inRange r)) 1 []
     ∷ check (some (those (loneZero r) (folders r))) 2 (smallest (those (loneZero r) (folders r)) ∷ [])
     ∷ twoClasses r
+    ∷ check (r .byPairs && badPairs r) 11 []
     ∷ []
 
 -- The register check: 0 is 'accepted'.

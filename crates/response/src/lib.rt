@@ -24,6 +24,8 @@ pub enum Response {
     BadCell(FolderNo),
     // 9: the log's end lies past its buffer
     BadEnd,
+    // 11: the pairs' lists are of unequal length or have over 256 pairs, or a pair names client 0 or one client twice
+    BadPairs,
     // 20: a rival exists
     Rival(FolderNo),
     // 21: kind 3 or 4, and a foreign folder exists
@@ -80,6 +82,7 @@ pub fn in_numbers(response: Response) -> Numbers
         Response::UnknownKind => refused(7, 0, 0),
         Response::BadCell(f) => refused(8, f.0, 0),
         Response::BadEnd => refused(9, 0, 0),
+        Response::BadPairs => refused(11, 0, 0),
         Response::Rival(f) => refused(20, f.0, 0),
         Response::Foreign(f) => refused(21, f.0, 0),
         Response::AtStake(f) => refused(22, f.0, 0),

@@ -1,0 +1,70 @@
+use native.Mathlib.Omega.{arith}
+use borrow.Author.Needs.{needs}
+use Rattle.register_pairs.proofs.any_bad_pair.Statement.{statement}
+use Rattle.register_pairs.proofs.any_bad_pair.Tie as tie
+use Rattle.register_pairs.proofs.any_bad_pair.Reads as reads
+use Rattle.register_pairs.proofs.any_bad_pair.Lts as lts
+use Rattle.register_pairs.proofs.bad_pair.Reads as bad-pair-reads
+
+abbrev Inv-loop : tie.InvT-loop
+Inv-loop firsts seconds any₀ i₀ any i = ?
+
+abbrev μ-loop : tie.MeasureT-loop
+μ-loop firsts seconds any₀ i₀ any i = ?
+
+-- src/lib.rt:26:5
+loop-holds : tie.Need-loop-holds Inv-loop μ-loop
+loop-holds c = search needs
+
+-- src/lib.rt:27:21
+mul-first : tie.Need-mul-first Inv-loop μ-loop
+mul-first c = search needs
+
+-- src/lib.rt:27:21
+shared-slice-read-first : tie.Need-shared-slice-read-first Inv-loop μ-loop
+shared-slice-read-first c = search needs
+
+-- src/lib.rt:28:22
+mul-second : tie.Need-mul-second Inv-loop μ-loop
+mul-second c = search needs
+
+-- src/lib.rt:28:22
+shared-slice-read-second : tie.Need-shared-slice-read-second Inv-loop μ-loop
+shared-slice-read-second c = search needs
+
+-- src/lib.rt:29:21
+bad-pair-requires : tie.Need-bad-pair-requires Inv-loop μ-loop
+bad-pair-requires c κs = search needs
+
+-- src/lib.rt:30:9
+add-i : tie.Need-add-i Inv-loop μ-loop
+add-i c = search needs
+
+-- src/lib.rt:26:5
+loop-less : tie.Need-loop-less Inv-loop μ-loop
+loop-less c = search needs
+
+-- src/lib.rt:26:5
+loop-again : tie.Need-loop-again Inv-loop μ-loop
+loop-again c = search needs
+
+-- src/lib.rt:20:1
+returns : tie.Need-returns Inv-loop μ-loop
+returns c = search needs
+
+pub any-bad-pair-spec : {M : Type 1} → statement M
+any-bad-pair-spec =
+    tie.close
+    (tie.spec
+    Inv-loop
+    μ-loop
+    loop-holds
+    mul-first
+    shared-slice-read-first
+    mul-second
+    shared-slice-read-second
+    bad-pair-requires
+    add-i
+    loop-less
+    loop-again
+    returns)

@@ -1,0 +1,1 @@
+-- Comments cite document 02, the change requests, by their numbers; docs/RULES.md, 'Conflicts by pair', says C-12 in words.

@@ -1,0 +1,1 @@
+// The search for a rival by pairs (document 02, C-12).
