@@ -11,7 +11,7 @@ use Rattle.vocabulary.specs.Answer.{Answer, answer, judge}
 use Rattle.vocabulary.specs.Those.{those, some}
 use Rattle.vocabulary.proofs.Those.{first-smallest}
 use Rattle.vocabulary.proofs.Bools.{true-or-false}
-use Rattle.register.specs.Register.{Register, registerOf, folders, inRange, loneZero, earlier, later, twoClasses, registerChecks, registerAnswer}
+use Rattle.register.specs.Register.{Register, registerBy, registerOf, folders, inRange, loneZero, earlier, later, twoClasses, badPairs, registerChecks, registerAnswer}
 use Rattle.register.proofs.Answers.{inRange-ranged}
 use Rattle.register_search.specs.Search.{searchAnswer}
 use Rattle.register_check.specs.Verdict.{pairsAnswer}
@@ -26,6 +26,10 @@ lone r = those (loneZero r) (folders r)
 pub answer-lone : (r : Register) → inRange r ≡ true → some (lone r) ≡ true → registerAnswer r ≡ answer 2 (getD (lone r) 0 (folders r) ∷ [])
 unfolding registerAnswer registerChecks judge
 answer-lone r fits found = rw (fits, found, first-smallest (loneZero r) (folders r) (folders r) found)
+
+-- A register's pairs alone.
+abbrev pub pairsOf : Register → Register
+pairsOf r = registerBy 0 [] [] true (r .firsts) (r .seconds)
 
 module _ (r : Register) (fits : inRange r ≡ true) (none : some (lone r) ≡ false) where
   -- The search for 3 asks nothing of the logins, nor of the pairs.
@@ -45,10 +49,10 @@ module _ (r : Register) (fits : inRange r ≡ true) (none : some (lone r) ≡ fa
       by (inr two) = absurd (3-0 (ap (λ (a : Answer). a .number) (rw two at (e ∙ searched-alone))))
 
   -- Where it names none, the pairs are judged.
-  pub answer-pairs : answer 0 [] ≡ searchAnswer (registerOf 0 (r .classes) (r .clients)) → pairsAnswer (r .byPairs) r ≡ registerAnswer r
-  unfolding registerAnswer registerChecks judge
+  pub answer-pairs : answer 0 [] ≡ searchAnswer (registerOf 0 (r .classes) (r .clients)) → pairsAnswer (r .byPairs) (pairsOf r) ≡ registerAnswer r
+  unfolding registerAnswer registerChecks judge badPairs
   answer-pairs e = by (true-or-false (some (later r)))
     where
-      by : (some (later r) ≡ true) ⊎ (some (later r) ≡ false) → pairsAnswer (r .byPairs) r ≡ registerAnswer r
+      by : (some (later r) ≡ true) ⊎ (some (later r) ≡ false) → pairsAnswer (r .byPairs) (pairsOf r) ≡ registerAnswer r
       by (inl two) = absurd (3-0 (sym (ap (λ (a : Answer). a .number) (rw two at (e ∙ searched-alone)))))
       by (inr two) = rw (fits, none, two)

@@ -13,7 +13,7 @@ ghost use Rattle.register.specs.Register.{badPair, badPairs};
 fn bad_pair(first: ClientNo, second: ClientNo) -> bool
     ensures { λ r. ⌜ r ≡ eqb (first .0) 0 || eqb (second .0) 0 || eqb (first .0) (second .0) ⌝ }
 {
-    same_client(first, ClientNo(0)) | same_client(second, ClientNo(0)) | same_client(first, second)
+    (first.0 == 0) | (second.0 == 0) | same_client(first, second)
 }
 
 // Whether any pair does. Without a way out of the loop, so that it runs on many pairs at once.

@@ -5,14 +5,14 @@ use native.Mathlib.Omega.{arith}
 use denote.Ref.{now}
 use borrow.Author.Tests.{not-true, not-false}
 use borrow.Author.Needs.{needs}
-use Rattle.register.specs.Register.{Register, registerOf, inRange}
+use Rattle.register.specs.Register.{Register, registerBy, inRange}
 use Rattle.register.proofs.Answers.{Ranged, inRange-ranged, answer-range}
-use Rattle.register_check.proofs.Answers.{answer-lone, answer-search}
+use Rattle.register_check.proofs.Answers.{answer-lone, answer-clash, answer-pairs}
 use Rattle.register_check.proofs.check.Statement.{statement}
 use Rattle.register_check.proofs.check.Tie as tie
 
 abbrev asked : tie.Else1 → Register
-asked c = registerOf (c .before .before .before .before .args .logins) (now (c .before .before .before .before .args .classes)) (now (c .before .before .before .before .args .clients))
+asked c = registerBy (c .before .before .before .before .before .before .args .logins) (now (c .before .before .before .before .before .before .args .classes)) (now (c .before .before .before .before .before .before .args .clients)) (c .before .before .before .before .before .before .args .by-pairs) (now (c .before .before .before .before .before .before .args .firsts)) (now (c .before .before .before .before .before .before .args .seconds))
 
 -- Past the first test the register is in range.
 fits : (c : tie.Else1) → inRange (asked c) ≡ true
@@ -36,8 +36,8 @@ first-lone-zero-requires : tie.Need-first-lone-zero-requires
 first-lone-zero-requires c κs =
     omega (arith, sizes (c .before .before))
 
-cast-t11 : tie.Need-cast-t11
-cast-t11 c =
+cast-t14 : tie.Need-cast-t14
+cast-t14 c =
     search (needs, sizes (c .before .before .before))
 
 returns-2 : tie.Need-returns-2
@@ -47,19 +47,25 @@ returns-2 c =
 first-clash-requires : tie.Need-first-clash-requires
 first-clash-requires c κs = search needs
 
-enum-told : tie.Need-enum-told
-enum-told c = search needs
-
 enum-known-clash : tie.Need-enum-known-clash
 enum-known-clash c = search needs
 
+enum-told : tie.Need-enum-told
+enum-told c = search needs
+
+judge-pairs-requires : tie.Need-judge-pairs-requires
+judge-pairs-requires c κs = search needs
+
 returns-3 : tie.Need-returns-3
 returns-3 c =
-    rw (c .enum-told .given .1) at (c .before .before .first-clash .ensures) ∙ sym (answer-search _ (fits (c .before .before .before .before .before)) (sym (c .before .before .before .before .any-lone-zero .ensures) ∙ c .before .before .before .if2 .left))
+    answer-clash (asked (c .before .before .before .before .before .before)) (fits (c .before .before .before .before .before .before)) (sym (c .before .before .before .before .before .any-lone-zero .ensures) ∙ c .before .before .before .before .if2 .left) _ _
+    (rw (c .before .clash .given .1) at (c .before .before .before .first-clash .ensures))
 
 returns-4 : tie.Need-returns-4
 returns-4 c =
-    rw (c .before .clash .given .1) at (c .before .before .before .first-clash .ensures) ∙ sym (answer-search _ (fits (c .before .before .before .before .before .before)) (sym (c .before .before .before .before .before .any-lone-zero .ensures) ∙ c .before .before .before .before .if2 .left))
+    c .judge-pairs .ensures
+    ∙ answer-pairs (asked (c .before .before .before .before .before .before)) (fits (c .before .before .before .before .before .before)) (sym (c .before .before .before .before .before .any-lone-zero .ensures) ∙ c .before .before .before .before .if2 .left)
+    (rw (c .before .enum-told .given .1) at (c .before .before .before .first-clash .ensures))
 
 pub check-spec : {M : Type 1} → statement M
 check-spec =
@@ -69,10 +75,11 @@ check-spec =
     returns
     any-lone-zero-requires
     first-lone-zero-requires
-    cast-t11
+    cast-t14
     returns-2
     first-clash-requires
-    enum-told
     enum-known-clash
+    enum-told
+    judge-pairs-requires
     returns-3
     returns-4)

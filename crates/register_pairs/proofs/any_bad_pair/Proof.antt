@@ -1,3 +1,13 @@
+-- `any_bad_pair` meets its contract: the flag says whether a pair that the loop has passed is at fault.
+use Rattle.register.specs.Register.{registerBy, badPair}
+use Rattle.vocabulary.specs.Those.{those, some}
+use Rattle.vocabulary.proofs.Those.{some-those-suc}
+use denote.Ref.{now}
+use lib.ListN.{length}
+use mathlib.Core.List.{[]}
+use mathlib.Core.Bool.{true}
+use mathlib.Core.Path.{_≡_, refl}
+use Prim.Native.Nat.{_≤_, _-_}
 use native.Mathlib.Omega.{arith}
 use borrow.Author.Needs.{needs}
 use Rattle.register_pairs.proofs.any_bad_pair.Statement.{statement}
@@ -7,14 +17,16 @@ use Rattle.register_pairs.proofs.any_bad_pair.Lts as lts
 use Rattle.register_pairs.proofs.bad_pair.Reads as bad-pair-reads
 
 abbrev Inv-loop : tie.InvT-loop
-Inv-loop firsts seconds any₀ i₀ any i = ?
+Inv-loop firsts seconds any₀ i₀ any i = (i ≤ length firsts) × (any ≡ some (those (badPair (registerBy 0 [] [] true firsts seconds)) i))
 
 abbrev μ-loop : tie.MeasureT-loop
-μ-loop firsts seconds any₀ i₀ any i = ?
+μ-loop firsts seconds any₀ i₀ any i = length firsts - i
 
 -- src/lib.rt:26:5
 loop-holds : tie.Need-loop-holds Inv-loop μ-loop
-loop-holds c = search needs
+unfolding those
+loop-holds c =
+    (omega arith, refl)
 
 -- src/lib.rt:27:21
 mul-first : tie.Need-mul-first Inv-loop μ-loop
@@ -46,11 +58,13 @@ loop-less c = search needs
 
 -- src/lib.rt:26:5
 loop-again : tie.Need-loop-again Inv-loop μ-loop
-loop-again c = search needs
+loop-again c =
+    (omega arith, rw (some-those-suc, c .bad-pair .ensures, c .before .before .before .before .loop .inv .1))
 
 -- src/lib.rt:20:1
 returns : tie.Need-returns Inv-loop μ-loop
-returns c = search needs
+returns c =
+    let end : c .before .loop .i ≡ length (now (c .before .before .before .before .args .firsts)) = omega arith in rw (← end) (c .before .loop .inv .1)
 
 pub any-bad-pair-spec : {M : Type 1} → statement M
 any-bad-pair-spec =

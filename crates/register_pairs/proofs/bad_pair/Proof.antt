@@ -6,22 +6,14 @@ use Rattle.register_pairs.proofs.bad_pair.Reads as reads
 use Rattle.register_pairs.proofs.bad_pair.Lts as lts
 use Rattle.ids.proofs.same_client.Reads as same-client-reads
 
--- src/lib.rt:16:5
+-- src/lib.rt:16:40
 same-client-requires : tie.Need-same-client-requires
 same-client-requires c κs = search needs
 
--- src/lib.rt:16:39
-same-client-requires-2 : tie.Need-same-client-requires-2
-same-client-requires-2 c κs = search needs
-
--- src/lib.rt:16:74
-same-client-requires-3 : tie.Need-same-client-requires-3
-same-client-requires-3 c κs = search needs
-
 -- src/lib.rt:13:1
 returns : tie.Need-returns
-returns c = search needs
+returns c =
+    rw (c .same-client .ensures)
 
 pub bad-pair-spec : {M : Type 1} → statement M
-bad-pair-spec =
-    tie.close (tie.spec same-client-requires same-client-requires-2 same-client-requires-3 returns)
+bad-pair-spec = tie.close (tie.spec same-client-requires returns)
