@@ -40,11 +40,11 @@ fn sanitised(l: Label) -> bool
     ids::same_client(a, ids::ClientNo(0))
 }
 
-// Rival: readable, of o's class and of another client.
+// Rival by classes: readable, of o's class and of another client.
 fn is_rival(cell: u8, f: Label, o: Label) -> bool
     ensures { λ r. ⌜ r ≡ ofSort Sort.Rival cell f o ⌝ }
 {
-    (cell % 2 == 1) & one_class(f, o) & other_client(f, o)
+    (cell % 2 == 1) & (one_class(f, o) & other_client(f, o))
 }
 
 // Foreign: readable, not sanitised, of another client.

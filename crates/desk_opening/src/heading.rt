@@ -70,7 +70,7 @@ pub(crate) fn closed(text: Text) -> Opening
     }
 }
 
-// The register's check, at the place of the first request or at the end.
+// The register's check, by classes, at the place of the first request or at the end.
 fn checked(logins: u16, filing: Filing, classes: [u16; 512], clients: [u16; 512]) -> Opening
     ensures { λ r. ⌜ ((f : Filed) → Kept f (stored filing classes clients) → r ≡ openingOf (openedWith (registerFiled logins f) (f .place))) ⌝ }
 {
@@ -82,6 +82,9 @@ fn checked(logins: u16, filing: Filing, classes: [u16; 512], clients: [u16; 512]
         logins as usize,
         &classes[0..folders],
         &clients[0..folders],
+        false,
+        &[],
+        &[],
     );
     match verdict {
         Verdict::Accepted => Opening {

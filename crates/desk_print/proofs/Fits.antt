@@ -3,14 +3,14 @@ use Prim.Native.Nat.{ℕ, _≤_, _<_, _^_}
 use native.Mathlib.Omega.{arith}
 use mathlib.Core.Path.{_≡_}
 use mathlib.Core.Logic.{_⊎_, inl, inr}
-use mathlib.Core.Bool.{Bool, true, false, cond}
+use mathlib.Core.Bool.{Bool, true, false, cond, _&&_}
 use mathlib.Core.List.{List, [], _∷_}
 use lib.ListN.{length}
 use Rattle.vocabulary.specs.Answer.{Answer, answer, judge}
 use Rattle.vocabulary.specs.Those.{those, some, smallest}
 use Rattle.vocabulary.proofs.Bools.{true-or-false}
 use Rattle.vocabulary.proofs.Those.{smallest-holds, some-none}
-use Rattle.register.specs.Register.{Register, folders, inRange, loneZero, differs, earlier, later, registerChecks, registerAnswer}
+use Rattle.register.specs.Register.{Register, folders, inRange, loneZero, differs, earlier, later, badPairs, registerChecks, registerAnswer}
 use Rattle.register.proofs.Answers.{inRange-ranged, answer-range}
 use Rattle.text_lines.proofs.Spaced.{Small}
 use Rattle.text_lines.proofs.Printed.{printed-fits}
@@ -43,16 +43,18 @@ smallest-most p n = by (true-or-false (some (those p n)))
 
 -- A number of the register's check, with few folders.
 abbrev Few : Answer → Type 0
-Few a = (a .number ≤ 3) × Small (a .carried) × (length (a .carried) ≤ 2)
+Few a = (a .number ≤ 11) × Small (a .carried) × (length (a .carried) ≤ 2)
 
 register-few : (r : Register) → Few (registerAnswer r)
 unfolding registerAnswer registerChecks judge later earlier
 register-few r = by (true-or-false (inRange r))
   where
-    told : (a b : Bool) (f g h : ℕ) → f ≤ 512 → g ≤ 512 → h ≤ 512 → Few (cond a (answer 2 (f ∷ [])) (cond b (answer 3 (g ∷ h ∷ [])) (answer 0 [])))
-    told true b f g h i j k = (omega arith, (omega arith, tt), omega arith)
-    told false true f g h i j k = (omega arith, (omega arith, (omega arith, tt)), omega arith)
-    told false false f g h i j k = (omega arith, tt, omega arith)
+    told : (a b c : Bool) (f g h : ℕ) → f ≤ 512 → g ≤ 512 → h ≤ 512 →
+        Few (cond a (answer 2 (f ∷ [])) (cond b (answer 3 (g ∷ h ∷ [])) (cond c (answer 11 []) (answer 0 []))))
+    told true b c f g h i j k = (omega arith, (omega arith, tt), omega arith)
+    told false true c f g h i j k = (omega arith, (omega arith, (omega arith, tt)), omega arith)
+    told false false true f g h i j k = (omega arith, tt, omega arith)
+    told false false false f g h i j k = (omega arith, tt, omega arith)
 
     by : (inRange r ≡ true) ⊎ (inRange r ≡ false) → Few (registerAnswer r)
     by (inl e) =
@@ -60,7 +62,7 @@ register-few r = by (true-or-false (inRange r))
         let first = smallest (later r) in
         let later-few : first ≤ 512 = omega (arith, smallest-most (λ f. some (earlier r f)) (folders r)) in
         rw e
-        (told (some (those (loneZero r) (folders r))) (some (later r)) (smallest (those (loneZero r) (folders r))) first (smallest (earlier r first))
+        (told (some (those (loneZero r) (folders r))) (some (later r)) (r .byPairs && badPairs r) (smallest (those (loneZero r) (folders r))) first (smallest (earlier r first))
         (omega (arith, smallest-most (loneZero r) (folders r))) later-few (omega (arith, smallest-most (differs r first) first)))
     by (inr e) = rw (answer-range r e) (omega arith, tt, omega arith)
 

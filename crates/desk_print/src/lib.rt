@@ -30,6 +30,7 @@ pub fn bad_register(verdict: Verdict) -> Text
         Verdict::OutOfRange => line(b"register ", 1, &[]),
         Verdict::LoneZero(f) => line(b"register ", 2, &[f.0]),
         Verdict::TwoClasses(f, g) => line(b"register ", 3, &[f.0, g.0]),
+        Verdict::BadPairs => line(b"register ", 11, &[]),
     }
 }
 

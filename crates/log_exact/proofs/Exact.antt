@@ -1,6 +1,7 @@
 -- The log is exact, in both directions.
 use Prim.Native.Nat.{ℕ, _+_, _≤_}
 use mathlib.Core.Path.{_≡_, sym, ap, _∙_}
+use mathlib.Core.Bool.{Bool}
 use mathlib.Core.List.{List, _++_}
 use lib.ListN.{length, drop}
 use lib.Seq.{slice}
@@ -12,7 +13,7 @@ use Rattle.policy.specs.Outcome.{Log, appended}
 use Rattle.log_exact.specs.Exact.{LoggedRequest, left, written, recorded, CanBeMade, walked, Yields, LogExact}
 use Rattle.audit_log.proofs.Reader.{list-written, step-writes, step-written, step-yields}
 use Rattle.log_exact.proofs.Appended.{slice-appended, drop-appended, logged-well-formed, logged-room, logged-left}
-use Rattle.log_exact.proofs.Witness.{witness, witness-lent, recorded-witness}
+use Rattle.log_exact.proofs.Witness.{witness, witness-mode, witness-lent, recorded-witness}
 
 module _ (w : LoggedRequest) where
   room : w .log .end + length (recordBytes (recorded w)) ≤ length (w .log .bytes)
@@ -39,14 +40,16 @@ module _ (w : LoggedRequest) where
   drop-left = rw written-bytes (ap (λ (l : Log). drop (w .log .end) (l .bytes)) appends ∙ drop-appended (w .log) (recordBytes (recorded w)) room)
 
 -- A record that stands at a place is the witness's.
-yielded : (log : List ℕ) (place : ℕ) (r : Standing log place) → (w : LoggedRequest) × CanBeMade w × Yields log place w
-yielded log place r =
-    let w = witness (r .stored) (r .well-formed) in
-    let same : recorded w ≡ r .stored = recorded-witness (r .stored) (r .well-formed) in
+yielded : (byPairs : Bool) (log : List ℕ) (place : ℕ) (r : Standing log place) →
+    (w : LoggedRequest) × (w .register .byPairs ≡ byPairs) × CanBeMade w × Yields log place w
+yielded byPairs log place r =
+    let w = witness (r .stored) byPairs (r .well-formed) in
+    let same : recorded w ≡ r .stored = recorded-witness (r .stored) byPairs (r .well-formed) in
     let bytes : written w ≡ recordBytes (r .stored) = written-bytes w ∙ ap recordBytes same in
     let stands : drop place log ≡ written w ++ drop (place + length (written w)) log = r .bytes ∙ ap (λ (l : List ℕ). l ++ drop (place + length l) log) (sym bytes) in (
       w,
-      witness-lent (r .stored) (r .well-formed),
+      witness-mode (r .stored) byPairs (r .well-formed),
+      witness-lent (r .stored) byPairs (r .well-formed),
       record {
         fields = step-yields log place r ∙ ap (λ x. entry (entryAt place x)) (sym same);
         list = list-back w log place (drop (place + length (written w)) log) stands;
@@ -65,5 +68,5 @@ log-exact =
       lists = list-back;
       reads-new = read-left;
       new-end = λ w. ap (placeAfter (w .log .end)) (read-left w) ∙ sym (ap (λ (l : Log). l .end) (appends w));
-      accepts = λ log place e bs h. yielded log place (step-written log place e bs h);
+      accepts = λ byPairs log place e bs h. yielded byPairs log place (step-written log place e bs h);
     }

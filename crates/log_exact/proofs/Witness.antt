@@ -1,6 +1,6 @@
--- For every well-formed record a request that writes it: 128 logins and 512 folders, of which the record's has class 1 and client 1 and
--- all others client 2, of class 1 for answer 20 and of class 2 otherwise; and rights on just the listed folders, to read for 20 and 21
--- and to write for 0 and 22.
+-- For every well-formed record a request that writes it, by classes or by pairs: 128 logins and 512 folders, of which the record's has class 1 and
+-- client 1 and all others client 2, of class 1 for answer 20 and of class 2 otherwise; the pair of 1 and 2 for answer 20, and none otherwise; and rights
+-- on just the listed folders, to read for 20 and 21 and to write for 0 and 22.
 use Prim.Native.Nat.{ℕ, zero, suc, _+_, _-_, _*_, _%_, _≤_, _<_}
 use native.Mathlib.Omega.{arith}
 use mathlib.Core.Path.{_≡_, refl, sym, ap, _∙_}
@@ -19,12 +19,14 @@ use Rattle.vocabulary.proofs.Those.{those-agree, those-never}
 use Rattle.vocabulary.proofs.Judge.{Passed, judge-append, judge-passed}
 use Rattle.vocabulary.proofs.Order.{lt-or-le}
 use Rattle.vocabulary.proofs.Bools.{neither, eqb-self, true-or-false, cond-same}
-use Rattle.register.specs.Register.{Register, folders, classOf, clientOf, exactlyOne, loneZero, differs, earlier, later, registerChecks, registerAnswer, Accepted}
+use Rattle.register.specs.Register.{Register, registerBy, folders, classOf, clientOf, exactlyOne, loneZero, differs, earlier, later, badPairs, registerChecks, Accepted}
+use Rattle.register.specs.Conflict.{paired, inConflict}
 use Rattle.log_fields.specs.Rule.{canAnswer, badCount}
 use Rattle.log_bytes.specs.Record.{Record, recordBytes}
 use Rattle.log_records.specs.WellFormed.{WellFormed}
 use Rattle.policy.specs.Rules.{rowOf, cell, writes, revokes, rival, foreign, atStake, rivals, foreigners, stakes, lost}
 use Rattle.policy.specs.Outcome.{Request, Log, requestChecks, wallChecks, wallAnswer, decision, outcome, logged, isLogged, recordOf}
+use Rattle.policy.proofs.Accepted.{passed-accepted}
 use Rattle.log_exact.specs.Exact.{LoggedRequest, recorded, CanBeMade}
 use Rattle.log_fields.proofs.Accepted.{Answers, answer-cases}
 use Rattle.log_exact.proofs.Rising.{rising-without, those-rising}
@@ -135,7 +137,7 @@ cond-most : {x y most : ℕ} (b : Bool) → x ≤ most → y ≤ most → cond b
 cond-most true p q = p
 cond-most false p q = q
 
-module _ (e : Record) where
+module _ (e : Record) (byPairs : Bool) where
   -- A read right has to be asked of the listed folders.
   abbrev reading : Bool
   reading = eqb (e .answer) 20 || eqb (e .answer) 21
@@ -149,13 +151,12 @@ module _ (e : Record) where
   abbrev cellAt : ℕ → ℕ
   cellAt f = cond (member f (e .list)) (cond reading 1 2) 0
 
+  -- The list with a client of the one pair.
+  abbrev paired-with : ℕ → List ℕ
+  paired-with c = cond (eqb (e .answer) 20) (c ∷ []) []
+
   abbrev register : Register
-  register =
-      record {
-        logins = 128;
-        classes = listOf 512 classAt;
-        clients = listOf 512 clientAt;
-      }
+  register = registerBy 128 (listOf 512 classAt) (listOf 512 clientAt) byPairs (paired-with 1) (paired-with 2)
 
   abbrev matrix : List ℕ
   matrix = listOf 65536 (λ i. cellAt (i % 512))
@@ -175,6 +176,14 @@ module _ (e : Record) where
         end = 0;
         serial = e .serial;
       }
+
+  paired-most : (c : ℕ) → c ≤ 65535 → (i : ℕ) → getD (paired-with c) i 0 ≤ 65535
+  paired-most c h i = by (eqb (e .answer) 20) i
+    where
+      by : (b : Bool) (i : ℕ) → getD (cond b (c ∷ []) []) i 0 ≤ 65535
+      by true zero = h
+      by true (suc i) = omega arith
+      by false i = omega arith
 
   -- ---- the register is accepted
 
@@ -206,6 +215,14 @@ module _ (e : Record) where
       by false false true = refl
       by false false false = refl
 
+  no-bad-pair : badPairs register ≡ false
+  unfolding badPairs those
+  no-bad-pair = by (eqb (e .answer) 20)
+    where
+      by : (b : Bool) → badPairs (registerBy 128 (listOf 512 classAt) (listOf 512 clientAt) byPairs (cond b (1 ∷ []) []) (cond b (2 ∷ []) [])) ≡ false
+      by true = refl
+      by false = refl
+
   register-passed : Passed (registerChecks register)
   unfolding registerChecks later earlier
   register-passed = (
@@ -216,14 +233,16 @@ module _ (e : Record) where
         rw
             (those-never (λ f. some (earlier register f)) (folders register)
             (λ f h. rw (those-never (differs register f) f (λ g k. no-difference f g (rw folders-512 at h) (omega (arith, rw folders-512 at h)))))),
-        tt,
+        (
+          rw no-bad-pair (and-false byPairs),
+          tt,
+        ),
       ),
     ),
   )
 
   register-accepted : Accepted register
-  unfolding registerAnswer
-  register-accepted = ap (λ (a : Answer). a .number) (judge-passed (registerChecks register) (answer 0 []) register-passed)
+  register-accepted = passed-accepted register register-passed
 
   -- ---- the row shows the listed folders
 
@@ -275,13 +294,32 @@ module _ (e : Record) where
     own-known : e .folder < 512
     own-known = omega (arith, w .folder)
 
+    -- The record's folder is of a client in conflict with all others', for answer 20.
+    conflict-at : (f : ℕ) → f < 512 → inConflict register f (e .folder) ≡ (eqb (e .answer) 20 && not (eqb f (e .folder)))
+    unfolding paired those
+    conflict-at f h =
+        rw (class-at f h, class-at (e .folder) own-known, client-at f h, client-at (e .folder) own-known, eqb-self (e .folder))
+        (by byPairs (eqb f (e .folder)) (eqb (e .answer) 20))
+      where
+        by : (mode own t : Bool) →
+            cond mode
+            (paired (registerBy 128 (listOf 512 classAt) (listOf 512 clientAt) byPairs (cond t (1 ∷ []) []) (cond t (2 ∷ []) [])) (cond own 1 2) 1)
+            (eqb (cond own 1 (cond t 1 2)) 1 && not (eqb (cond own 1 2) 1))
+            ≡ (t && not own)
+        by true true true = refl
+        by true true false = refl
+        by true false true = refl
+        by true false false = refl
+        by false true true = refl
+        by false true false = refl
+        by false false true = refl
+        by false false false = refl
+
     rival-at : (f : ℕ) → f < 512 → rival register row (e .folder) f ≡ (eqb (e .answer) 20 && member f (e .list))
     rival-at f h =
-        rw (cell-at f h, class-at f h, class-at (e .folder) own-known, client-at f h, client-at (e .folder) own-known, eqb-self (e .folder))
-        (by (member f (e .list)) (eqb f (e .folder)) (eqb (e .answer) 20) (eqb (e .answer) 21) (own-at f))
+        rw (cell-at f h, conflict-at f h) (by (member f (e .list)) (eqb f (e .folder)) (eqb (e .answer) 20) (eqb (e .answer) 21) (own-at f))
       where
-        by : (mem own t u : Bool) → (own ≡ true → mem ≡ false) →
-            (eqb (cond mem (cond (t || u) 1 2) 0 % 2) 1 && eqb (cond own 1 (cond t 1 2)) 1 && not (eqb (cond own 1 2) 1)) ≡ (t && mem)
+        by : (mem own t u : Bool) → (own ≡ true → mem ≡ false) → (eqb (cond mem (cond (t || u) 1 2) 0 % 2) 1 && (t && not own)) ≡ (t && mem)
         by false own t u d = sym (and-false t)
         by true true t u d = absurd (false≢true (sym (d refl)))
         by true false true u d = refl
@@ -374,12 +412,18 @@ module _ (e : Record) where
           is-logged = rw answered told;
         }
 
+    pub witness-mode : witness .register .byPairs ≡ byPairs
+    unfolding witness
+    witness-mode = refl
+
     pub witness-lent : CanBeMade witness
     unfolding witness
     witness-lent =
         record {
           classes = listOf-most 512 65535 classAt (λ f. cond-most (eqb f (e .folder)) (omega arith) (cond-most (eqb (e .answer) 20) (omega arith) (omega arith)));
           clients = listOf-most 512 65535 clientAt (λ f. cond-most (eqb f (e .folder)) (omega arith) (omega arith));
+          firsts = paired-most 1 (omega arith);
+          seconds = paired-most 2 (omega arith);
           matrix = λ i. omega (arith, listOf-most 65536 2 (λ k. cellAt (k % 512)) (λ k. cond-most (member (k % 512) (e .list)) (cond-most reading (omega arith) (omega arith)) (omega arith)) i);
           log = λ i. rw (getD-zeros (length (recordBytes e)) i) (omega arith);
         }

@@ -8,16 +8,21 @@ use native.Mathlib.Decide.{ℕ-discrete, decLt}
 use lib.ListN.{length}
 use lib.Dec.{eqb, leb, ltb}
 use borrow.Author.Tests.{eq-eqb, ne-eqb, eqb-true, eqb-false, not-false, leb-true}
-use Rattle.vocabulary.specs.Answer.{answer, judge}
+use Rattle.vocabulary.specs.Answer.{Answer, answer, judge}
 use Rattle.vocabulary.specs.Those.{those, some}
 use Rattle.vocabulary.proofs.Those.{those-empty, some-none}
-use Rattle.vocabulary.proofs.Judge.{Passed, judge-silent}
+use Rattle.vocabulary.proofs.Judge.{Passed, judge-silent, judge-passed}
 use Rattle.vocabulary.proofs.Bools.{not-both, neither}
 use Rattle.register.specs.Register.{Register, folders, classOf, clientOf, inRange, loneZero, differs, earlier, later, pairs, badPair, badPairs, registerChecks, registerAnswer, Accepted}
 
 passed : (r : Register) → Accepted r → Passed (registerChecks r)
 unfolding registerAnswer registerChecks
 passed r ok = judge-silent (registerChecks r) (answer 0 []) 0 refl ok .0
+
+-- Where every row for the register is passed, it is accepted.
+pub passed-accepted : (r : Register) → Passed (registerChecks r) → Accepted r
+unfolding registerAnswer
+passed-accepted r p = ap (λ (a : Answer). a .number) (judge-passed (registerChecks r) (answer 0 []) p)
 
 module _ (r : Register) (ok : Accepted r) where
   pub in-range : inRange r ≡ true
