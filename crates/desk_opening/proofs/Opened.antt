@@ -8,7 +8,7 @@ use lib.ListN.{length}
 use borrow.Author.Tests.{lt-leb}
 use Rattle.vocabulary.specs.Answer.{answer, judge}
 use Rattle.register_check.specs.declared.Verdict.{Verdict}
-use Rattle.register_check.specs.declared.Verdict.the-variants.{Accepted, OutOfRange, LoneZero, TwoClasses}
+use Rattle.register_check.specs.declared.Verdict.the-variants.{Accepted, OutOfRange, LoneZero, TwoClasses, BadPairs}
 use Rattle.register.specs.Register.{registerOf, registerChecks, registerAnswer}
 use Rattle.register_check.specs.Verdict.{verdictAnswer}
 use Rattle.register_check.proofs.Verdict.{the-type}
@@ -21,8 +21,9 @@ unfolding registerAnswer registerChecks judge
 register-over p cs ds h = rw (lt-leb (length cs) 512 h, and-false)
 
 -- A verdict that is not the first refuses.
-pub refused : (v : Verdict) → OneOf (1 ∷ 2 ∷ 3 ∷ []) (tagOf the-type v) → eqb (verdictAnswer v .number) 0 ≡ false
-refused Accepted other = absurd (miss (1 ∷ 2 ∷ 3 ∷ []) 0 tt other)
+pub refused : (v : Verdict) → OneOf (1 ∷ 2 ∷ 3 ∷ 4 ∷ []) (tagOf the-type v) → eqb (verdictAnswer v .number) 0 ≡ false
+refused Accepted other = absurd (miss (1 ∷ 2 ∷ 3 ∷ 4 ∷ []) 0 tt other)
 refused OutOfRange other = refl
 refused (LoneZero f) other = refl
 refused (TwoClasses f g) other = refl
+refused BadPairs other = refl

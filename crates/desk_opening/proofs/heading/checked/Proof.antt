@@ -15,10 +15,10 @@ use Rattle.desk_opening.proofs.heading.checked.Tie as tie
 use Rattle.desk_opening.proofs.heading.checked.Statement.{statement}
 
 -- the check is of the folders that are kept
-verdict : (c : tie.After-check) (f : Filed) → Kept f (stored (c .before .before .before .before .before .before .args .filing) (c .before .before .before .before .before .before .args .t3) (c .before .before .before .before .before .before .args .t4))
-    → verdictAnswer (c .check .result) ≡ registerAnswer (registerOf (c .before .before .before .before .before .before .args .logins) (f .classes) (f .clients))
+verdict : (c : tie.After-check) (f : Filed) → Kept f (stored (c .before .before .before .before .before .before .before .before .args .filing) (c .before .before .before .before .before .before .before .before .args .t3) (c .before .before .before .before .before .before .before .before .args .t4))
+    → verdictAnswer (c .check .result) ≡ registerAnswer (registerOf (c .before .before .before .before .before .before .before .before .args .logins) (f .classes) (f .clients))
 verdict c f k =
-    let a = c .before .before .before .before .before .before .args in
+    let a = c .before .before .before .before .before .before .before .before .args in
     let count : a .filing .folders ≡ length (f .classes) = ap (λ (s : Stored). s .filing .folders) (k .kept) in
     let few : length (f .classes) ≤ 512 = omega arith in
     rw (
@@ -56,6 +56,12 @@ part-check-start-2 c = search needs
 
 part-check-end-2 : tie.Need-part-check-end-2
 part-check-end-2 c = search needs
+
+slice-aggregate-check : tie.Need-slice-aggregate-check
+slice-aggregate-check c = search needs
+
+slice-aggregate-check-2 : tie.Need-slice-aggregate-check-2
+slice-aggregate-check-2 c = search needs
 
 check-requires : tie.Need-check-requires
 check-requires c κs = search needs
@@ -105,6 +111,8 @@ checked-spec =
     sub-check-2
     part-check-start-2
     part-check-end-2
+    slice-aggregate-check
+    slice-aggregate-check-2
     check-requires
     enum-told
     nothing-requires
