@@ -15,7 +15,7 @@ use Rattle.vocabulary.proofs.Judge.{Passed, judge-silent, judge-passed}
 use Rattle.vocabulary.proofs.Bools.{not-both, neither}
 use Rattle.register.specs.Register.{Register, folders, classOf, clientOf, inRange, loneZero, differs, earlier, later, pairs, badPair, badPairs, registerChecks, registerAnswer, Accepted}
 
-passed : (r : Register) → Accepted r → Passed (registerChecks r)
+pub passed : (r : Register) → Accepted r → Passed (registerChecks r)
 unfolding registerAnswer registerChecks
 passed r ok = judge-silent (registerChecks r) (answer 0 []) 0 refl ok .0
 

@@ -34,7 +34,7 @@ module _ (r : Register) where
   pub class-told : (f g : ℕ) → classOf r f ≡ classOf r g → (clientOf r f ≡ clientOf r g → ⊥) → oneClass r f g ≡ true
   class-told f g a d = rw (eq-eqb (classOf r f) (classOf r g) a, ne-eqb (clientOf r f) (clientOf r g) d)
 
-  by-classes : Accepted r → Telling r (oneClass r)
+  pub by-classes : Accepted r → Telling r (oneClass r)
   by-classes ok =
       record {
         turned = λ f g e. let p = class-parts f g e in class-told g f (sym (p .0)) (λ i. p .1 (sym i));
@@ -53,15 +53,15 @@ module _ (r : Register) where
 
 module _ (r : Register) where
   -- A pair that names two clients, whichever way round.
-  record Named (c d : ℕ) : Type 0 where
-    place : ℕ
-    known : place < pairs r
-    clients : ((firstAt r place ≡ c) × (secondAt r place ≡ d)) ⊎ ((firstAt r place ≡ d) × (secondAt r place ≡ c))
+  pub record Named (c d : ℕ) : Type 0 where
+    pub place : ℕ
+    pub known : place < pairs r
+    pub clients : ((firstAt r place ≡ c) × (secondAt r place ≡ d)) ⊎ ((firstAt r place ≡ d) × (secondAt r place ≡ c))
 
   abbrev first : ℕ → ℕ → ℕ
   first c d = smallest (those (pairNames r c d) (pairs r))
 
-  pair-named : (c d : ℕ) → paired r c d ≡ true → Named c d
+  pub pair-named : (c d : ℕ) → paired r c d ≡ true → Named c d
   unfolding paired
   pair-named c d e =
       let p = smallest-holds (pairNames r c d) (pairs r) e in

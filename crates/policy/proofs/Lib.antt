@@ -7,4 +7,5 @@ pub mod Outcome
 pub mod Shown
 pub mod Demand3
 pub mod Papers
+pub mod Modes
 pub mod Session

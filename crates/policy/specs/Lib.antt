@@ -8,4 +8,5 @@ pub mod History
 -- Claims, and the words that they use:
 pub mod Demand3
 pub mod Papers
+pub mod Modes
 pub mod Session
