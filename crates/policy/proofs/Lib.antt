@@ -8,4 +8,5 @@ pub mod Shown
 pub mod Demand3
 pub mod Papers
 pub mod Modes
+pub mod Written
 pub mod Session
