@@ -20,7 +20,7 @@ use Rattle.vocabulary.proofs.Judge.{Passed, judge-append, judge-passed}
 use Rattle.vocabulary.proofs.Order.{lt-or-le}
 use Rattle.vocabulary.proofs.Bools.{neither, eqb-self, true-or-false, cond-same}
 use Rattle.register.specs.Register.{Register, registerBy, folders, classOf, clientOf, exactlyOne, loneZero, differs, earlier, later, badPairs, registerChecks, Accepted}
-use Rattle.register.specs.Conflict.{paired, inConflict}
+use Rattle.policy.specs.Conflict.{paired, inConflict}
 use Rattle.log_fields.specs.Rule.{canAnswer, badCount}
 use Rattle.log_bytes.specs.Record.{Record, recordBytes}
 use Rattle.log_records.specs.WellFormed.{WellFormed}

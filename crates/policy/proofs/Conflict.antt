@@ -9,7 +9,7 @@ use Rattle.vocabulary.specs.Those.{those, some, smallest}
 use Rattle.vocabulary.proofs.Those.{those-agree, smallest-holds}
 use Rattle.vocabulary.proofs.Bools.{both, either, neither, true-or-false, and-both}
 use Rattle.register.specs.Register.{Register, folders, classOf, clientOf, pairs, firstAt, secondAt, badPair, Accepted}
-use Rattle.register.specs.Conflict.{oneClass, pairNames, paired, inConflict}
+use Rattle.policy.specs.Conflict.{oneClass, pairNames, paired, inConflict}
 use Rattle.policy.specs.Wall.{Conflict, wallOf}
 use Rattle.policy.proofs.Wall.{Lawful}
 use Rattle.policy.proofs.Accepted.{class-zero, client-zero, one-class, pair-sound}

@@ -13,7 +13,7 @@ use Rattle.vocabulary.proofs.Those.{those-agree, those-never}
 use Rattle.vocabulary.proofs.Judge.{Passed, judge-append, judge-passed, judge-either}
 use Rattle.vocabulary.proofs.Bools.{not-both, true-or-false}
 use Rattle.register.specs.Register.{Register, folders, clientOf, earlier, later, badPair, badPairs, registerChecks, Accepted}
-use Rattle.register.specs.Conflict.{oneClass, paired, inConflict}
+use Rattle.policy.specs.Conflict.{oneClass, paired, inConflict}
 use Rattle.policy.specs.Rules.{rowOf, cell, canRead, rivals, foreigners, stakes, lost, rowAfter}
 use Rattle.policy.specs.Outcome.{Request, Log, requestChecks, wallChecks, wallAnswer, decision, outcome}
 use Rattle.policy.specs.Modes.{inPairs, OneClassOf, WrittenOut, SameByPairs}

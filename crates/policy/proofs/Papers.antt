@@ -7,7 +7,7 @@ use mathlib.Core.List.{List}
 use native.Mathlib.Decide.{ℕ-discrete}
 use Rattle.vocabulary.proofs.Bools.{not-both, true-or-false}
 use Rattle.register.specs.Register.{folders, clientOf}
-use Rattle.register.specs.Conflict.{inConflict}
+use Rattle.policy.specs.Conflict.{inConflict}
 use Rattle.policy.specs.Rules.{rowOf}
 use Rattle.policy.specs.History.{State, blank, run}
 use Rattle.policy.specs.Papers.{Theorem1, Theorem1ByClasses, Theorem2, Theorem2ByClasses, Theorem4}

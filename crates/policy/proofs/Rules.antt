@@ -14,7 +14,7 @@ use Rattle.vocabulary.proofs.Those.{those-empty, some-none, smallest-holds, mem
 use Rattle.vocabulary.proofs.Judge.{Passed, judge-silent}
 use Rattle.vocabulary.proofs.Bools.{both, and-both, not-both, true-or-false}
 use Rattle.register.specs.Register.{Register, folders, clientOf, sanitised}
-use Rattle.register.specs.Conflict.{inConflict}
+use Rattle.policy.specs.Conflict.{inConflict}
 use Rattle.policy.specs.Rules.{cell, canRead, canWrite, reads, writes, revokes, rival, foreign, atStake, rivals, foreigners, stakes, lost}
 use Rattle.policy.specs.Outcome.{wallChecks, wallAnswer, byWall}
 

@@ -13,7 +13,7 @@ use Rattle.vocabulary.specs.Those.{those, some, smallest, member}
 use Rattle.vocabulary.proofs.Those.{those-empty, those-holds, smallest-holds, some-none, member-those, below-suc}
 use Rattle.vocabulary.proofs.Bools.{both, either, not-both, true-or-false, eqb-self, and-both}
 use Rattle.register.specs.Register.{Register, folders, clientOf, pairs, Accepted}
-use Rattle.register.specs.Conflict.{oneClass, pairNames, paired}
+use Rattle.policy.specs.Conflict.{oneClass, pairNames, paired}
 use Rattle.policy.specs.Modes.{inPairs, OneClassOf, WrittenOut, newClient, facing, writtenFirsts, writtenSeconds, CanBeWritten}
 use Rattle.policy.proofs.Conflict.{Telling, by-classes, pairs-turned}
 

@@ -8,7 +8,7 @@ use lib.ListN.{length, getD, replicate}
 use lib.Dec.{eqb}
 use Rattle.vocabulary.specs.Those.{those, some}
 use Rattle.register.specs.Register.{Register, registerBy, folders, clientOf, Accepted}
-use Rattle.register.specs.Conflict.{oneClass, paired}
+use Rattle.policy.specs.Conflict.{oneClass, paired}
 use Rattle.policy.specs.Outcome.{Request, Log, outcome}
 
 -- The same logins and folders, by these pairs.

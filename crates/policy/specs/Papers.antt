@@ -6,7 +6,7 @@ use mathlib.Core.Path.{_≡_}
 use mathlib.Core.Bool.{true, false}
 use mathlib.Core.List.{List}
 use Rattle.register.specs.Register.{Register, Accepted, classOf, clientOf}
-use Rattle.register.specs.Conflict.{inConflict}
+use Rattle.policy.specs.Conflict.{inConflict}
 use Rattle.policy.specs.Outcome.{Request, Log, outcome}
 use Rattle.policy.specs.Wall.{Own, wallOf}
 use Rattle.policy.specs.History.{Step, blank, run}

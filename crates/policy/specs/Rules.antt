@@ -7,7 +7,7 @@ use lib.Dec.{leb, eqb}
 use Rattle.vocabulary.specs.Those.{those}
 use Rattle.vocabulary.specs.Each.{each}
 use Rattle.register.specs.Register.{Register, folders, clientOf, sanitised}
-use Rattle.register.specs.Conflict.{inConflict}
+use Rattle.policy.specs.Conflict.{inConflict}
 
 -- ---- the matrix: P times F bytes, login by login
 

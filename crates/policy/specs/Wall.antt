@@ -7,7 +7,7 @@ use mathlib.Core.List.{List}
 use lib.Dec.{eqb}
 use Rattle.vocabulary.specs.Those.{member}
 use Rattle.register.specs.Register.{Register, folders, clientOf}
-use Rattle.register.specs.Conflict.{inConflict}
+use Rattle.policy.specs.Conflict.{inConflict}
 use Rattle.policy.specs.Rules.{reads, writes}
 
 -- A wall: each folder's client, 0 for a sanitised folder, and which clients are in conflict.

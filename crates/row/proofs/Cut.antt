@@ -1,27 +1,30 @@
 -- The rules by the cut of the code: the wall's answer, case by case, by the first find of each search (the row's length stands for 'none');
 -- the write rights lost, by the folders at stake.
 use Prim.Native.Nat.{ℕ, _≤_, _<_}
-use mathlib.Core.Path.{_≡_}
+use mathlib.Core.Path.{_≡_, refl, sym, _∙_}
 use mathlib.Core.Logic.{_⊎_, inl, inr, ⊎-elim}
-use mathlib.Core.Bool.{Bool, true, false, _&&_}
+use mathlib.Core.Bool.{Bool, true, false, cond, not, _&&_}
 use mathlib.Core.List.{List, [], _∷_}
-use lib.ListN.{length}
+use lib.ListN.{length, getD}
 use lib.Dec.{eqb}
-use borrow.Author.Tests.{eqb-true, eq-eqb, ne-eqb, le-leb, lt-leb}
+use borrow.Author.Tests.{eqb-true, eq-eqb, ne-eqb, le-leb, lt-leb, not-false}
 use Rattle.vocabulary.specs.Answer.{Answer, answer, judge}
-use Rattle.vocabulary.specs.Those.{some, smallest}
+use Rattle.vocabulary.specs.Those.{those, some, smallest}
 use Rattle.vocabulary.proofs.Those.{first-some, first-none, those-agree, those-never}
 use Rattle.vocabulary.proofs.Bools.{either, both, true-or-false}
 use Rattle.ids.specs.declared.Label.{Label}
-use Rattle.register.specs.Register.{Register, folders}
-use Rattle.policy.specs.Rules.{writes, revokes, rivals, foreigners, stakes, lost}
+use Rattle.register.specs.Register.{Register, registerBy, folders, clientOf}
+use Rattle.policy.specs.Conflict.{oneClass, paired}
+use Rattle.policy.specs.Rules.{cell, canRead, writes, revokes, rival, rivals, foreigners, stakes, lost}
 use Rattle.policy.specs.Outcome.{wallChecks, wallAnswer}
 use Rattle.cell_rules.specs.declared.Sort.{Sort}
 use Rattle.cell_rules.specs.declared.Sort.the-variants.{Rival, Foreign, AtStake}
 use Rattle.row_labels.specs.Fitting.{listsFit, fitting, labelAt}
+use Rattle.row_labels.specs.Cut.{Alongside}
+use Rattle.row_marks.specs.Opposed.{pairsFit, opposers, firstOpposer}
 use Rattle.row_labels.proofs.Fitting.{fits-are}
-use Rattle.row.specs.Row.{rowAnswer, ruled, lostOn}
-use Rattle.row.specs.Cut.{allOf, firstOf}
+use Rattle.row.specs.Row.{fitChecks, rowAnswer, ruled, lostOn}
+use Rattle.row.specs.Cut.{allOf, firstOf, firstRival}
 use Rattle.row.proofs.Fitting.{lostOn-fits}
 
 -- A kind that enters a write right is not the careful read.
@@ -29,10 +32,31 @@ writes-other : (kind : ℕ) → writes kind ≡ true → eqb kind 2 ≡ false
 writes-other kind e =
     ⊎-elim (λ a. rw (eqb-true kind 3 a)) (λ a. rw (eqb-true kind 4 a)) (either (eqb kind 3) (eqb kind 4) e)
 
-module _ (r : Register) (row : List ℕ) (same : folders r ≡ length row) (o kind : ℕ) (l : Label) (asked : l ≡ labelAt (r .classes) (r .clients) o) where
+-- Where lists and pairs fit, the first rival is that of the rules, in either mode.
+module _ (r : Register) (row : List ℕ) (beside : Alongside row (r .classes) (r .clients)) (o : ℕ) (l : Label) (asked : l ≡ labelAt (r .classes) (r .clients) o) where
+  first-by-pairs : pairsFit r ≡ true → firstOpposer (registerBy 0 [] (r .clients) true (r .firsts) (r .seconds)) row (l .client .0)
+      ≡ getD (those (λ f. canRead (cell row f) && paired r (clientOf r f) (clientOf r o)) (length row)) 0 (length row)
+  unfolding opposers pairsFit paired
+  first-by-pairs fit = rw (asked, eq-eqb (length (r .clients)) (length row) (beside .1), fit)
+
+  first-is : (r .byPairs && not (pairsFit r)) ≡ false → firstRival r row l ≡ getD (rivals r row o) 0 (length row)
+  unfolding rivals
+  first-is fit = rw (beside .0) (by (r .byPairs) refl)
+    where
+      by : (mode : Bool) → r .byPairs ≡ mode →
+          cond mode (firstOpposer (registerBy 0 [] (r .clients) true (r .firsts) (r .seconds)) row (l .client .0)) (firstOf Rival row (r .classes) (r .clients) l)
+          ≡ getD (those (λ f. canRead (cell row f) && cond mode (paired r (clientOf r f) (clientOf r o)) (oneClass r f o)) (length row)) 0 (length row)
+      by true e = first-by-pairs (not-false (pairsFit r) (rw e at fit))
+      by false e = rw asked
+
+module _ (r : Register) (row : List ℕ) (beside : Alongside row (r .classes) (r .clients)) (fit : (r .byPairs && not (pairsFit r)) ≡ false)
+    (o kind : ℕ) (l : Label) (asked : l ≡ labelAt (r .classes) (r .clients) o) where
   -- What a search for a sort found.
   abbrev Finds : Sort → ℕ → Type 0
   Finds sort n = n ≡ firstOf sort row (r .classes) (r .clients) l
+
+  same : folders r ≡ length row
+  same = beside .0
 
   found : (sort : Sort) {n : ℕ} → Finds sort n → n < length row →
       (some (allOf sort row (r .classes) (r .clients) (labelAt (r .classes) (r .clients) o)) ≡ true)
@@ -43,45 +67,64 @@ module _ (r : Register) (row : List ℕ) (same : folders r ≡ length row) (o ki
       some (allOf sort row (r .classes) (r .clients) (labelAt (r .classes) (r .clients) o)) ≡ false
   none sort {n} is h = let e = rw asked at is in first-none _ _ (rw e at h)
 
-  pub says-rival : {n : ℕ} → Finds Rival n → n < length row → answer 20 (n ∷ []) ≡ ruled (wallAnswer r row o kind)
-  unfolding wallAnswer wallChecks judge rivals
-  says-rival is h = let p = found Rival is h in rw (same, p .0, p .1)
+  -- What the search for a rival found.
+  rival-found : {n : ℕ} → n ≡ firstRival r row l → n < length row → (some (rivals r row o) ≡ true) × (smallest (rivals r row o) ≡ n)
+  unfolding rivals
+  rival-found {n} is h =
+      let e : n ≡ getD (rivals r row o) 0 (length row) = is ∙ first-is r row beside o l asked fit in
+      let p = first-some (rival r row o) (folders r) (length row) (rw e at h) in
+      (p .0, p .1 ∙ sym e)
 
-  module _ {n : ℕ} (passed : Finds Rival n) (past : length row ≤ n) where
+  no-rival : {n : ℕ} → n ≡ firstRival r row l → length row ≤ n → some (rivals r row o) ≡ false
+  unfolding rivals
+  no-rival {n} is h =
+      let e : n ≡ getD (rivals r row o) 0 (folders r) = rw same (is ∙ first-is r row beside o l asked fit) in
+      first-none (rival r row o) (folders r) (rw (← e, same) h)
+
+  pub says-rival : {n : ℕ} → n ≡ firstRival r row l → n < length row → answer 20 (n ∷ []) ≡ ruled (wallAnswer r row o kind)
+  unfolding wallAnswer wallChecks judge
+  says-rival is h = let p = rival-found is h in rw (p .0, p .1)
+
+  module _ {n : ℕ} (passed : n ≡ firstRival r row l) (past : length row ≤ n) where
     pub says-foreign : writes kind ≡ true → {m : ℕ} → Finds Foreign m → m < length row → answer 21 (m ∷ []) ≡ ruled (wallAnswer r row o kind)
-    unfolding wallAnswer wallChecks judge rivals foreigners
-    says-foreign w is h = let p = found Foreign is h in rw (same, none Rival passed past, w, p .0, p .1)
+    unfolding wallAnswer wallChecks judge foreigners
+    says-foreign w is h = let p = found Foreign is h in rw (no-rival passed past, same, w, p .0, p .1)
 
     pub grants-write : writes kind ≡ true → {m : ℕ} → Finds Foreign m → length row ≤ m → answer 0 [] ≡ ruled (wallAnswer r row o kind)
-    unfolding wallAnswer wallChecks judge rivals foreigners
-    grants-write w is h = rw (same, none Rival passed past, w, none Foreign is h, writes-other kind w)
+    unfolding wallAnswer wallChecks judge foreigners
+    grants-write w is h = rw (no-rival passed past, same, w, none Foreign is h, writes-other kind w)
 
     pub says-stake : writes kind ≡ false → kind ≡ 2 → {m : ℕ} → Finds AtStake m → m < length row → answer 22 (m ∷ []) ≡ ruled (wallAnswer r row o kind)
-    unfolding wallAnswer wallChecks judge rivals stakes
-    says-stake w e is h = let p = found AtStake is h in rw (same, none Rival passed past, w, eq-eqb kind 2 e, p .0, p .1)
+    unfolding wallAnswer wallChecks judge stakes
+    says-stake w e is h = let p = found AtStake is h in rw (no-rival passed past, same, w, eq-eqb kind 2 e, p .0, p .1)
 
     pub grants-careful : writes kind ≡ false → kind ≡ 2 → {m : ℕ} → Finds AtStake m → length row ≤ m → answer 0 [] ≡ ruled (wallAnswer r row o kind)
-    unfolding wallAnswer wallChecks judge rivals stakes
-    grants-careful w e is h = rw (same, none Rival passed past, w, eq-eqb kind 2 e, none AtStake is h)
+    unfolding wallAnswer wallChecks judge stakes
+    grants-careful w e is h = rw (no-rival passed past, same, w, eq-eqb kind 2 e, none AtStake is h)
 
     pub grants-read : writes kind ≡ false → (kind ≡ 2 → ⊥) → answer 0 [] ≡ ruled (wallAnswer r row o kind)
-    unfolding wallAnswer wallChecks judge rivals
-    grants-read w e = rw (same, none Rival passed past, w, ne-eqb kind 2 e)
+    unfolding wallAnswer wallChecks judge
+    grants-read w e = rw (no-rival passed past, w, ne-eqb kind 2 e)
 
--- Rows 1 and 6 of the table, and what follows them.
+-- Rows 1, 11 and 6 of the table, and what follows them.
 module _ (r : Register) (row : List ℕ) (o kind : ℕ) where
   pub says-unfit : listsFit r row ≡ false → answer 1 [] ≡ ruled (rowAnswer r row o kind)
-  unfolding rowAnswer judge
+  unfolding rowAnswer fitChecks judge
   says-unfit e = rw e
 
-  pub says-unknown : listsFit r row ≡ true → length row ≤ o → answer 6 [] ≡ ruled (rowAnswer r row o kind)
-  unfolding rowAnswer judge
-  says-unknown e h = rw (e, le-leb (length row) o h)
+  pub says-pairs : listsFit r row ≡ true → (r .byPairs && not (pairsFit r)) ≡ true → answer 11 [] ≡ ruled (rowAnswer r row o kind)
+  unfolding rowAnswer fitChecks judge
+  says-pairs e p = rw (e, p)
+
+  pub says-unknown : listsFit r row ≡ true → (r .byPairs && not (pairsFit r)) ≡ false → length row ≤ o → answer 6 [] ≡ ruled (rowAnswer r row o kind)
+  unfolding rowAnswer fitChecks judge
+  says-unknown e p h = rw (e, p, le-leb (length row) o h)
 
   -- Past them, the wall speaks.
-  pub says-wall : listsFit r row ≡ true → o < length row → {a : Answer} → a ≡ ruled (wallAnswer r row o kind) → a ≡ ruled (rowAnswer r row o kind)
-  unfolding rowAnswer judge
-  says-wall e h is = rw (e, lt-leb (length row) o h) is
+  pub says-wall : listsFit r row ≡ true → (r .byPairs && not (pairsFit r)) ≡ false → o < length row → {a : Answer} → a ≡ ruled (wallAnswer r row o kind) →
+      a ≡ ruled (rowAnswer r row o kind)
+  unfolding rowAnswer fitChecks judge
+  says-wall e p h is = rw (e, p, lt-leb (length row) o h) is
 
 -- The first of two tests, that lists and folder fit.
 pub fits-first : (r : Register) (row : List ℕ) (o : ℕ) {a : Bool} (b : Bool) → a ≡ fitting r row o → (a && b) ≡ true → fitting r row o ≡ true

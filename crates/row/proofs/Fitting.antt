@@ -2,7 +2,7 @@
 use Prim.Native.Nat.{ℕ}
 use mathlib.Core.Path.{_≡_, sym}
 use mathlib.Core.Logic.{_⊎_, inl, inr}
-use mathlib.Core.Bool.{true, false}
+use mathlib.Core.Bool.{true, false, not, _&&_}
 use mathlib.Core.List.{List}
 use lib.ListN.{length}
 use lib.Dec.{eqb}
@@ -14,7 +14,8 @@ use Rattle.policy.specs.Rules.{lost}
 use Rattle.policy.specs.Outcome.{wallAnswer}
 use Rattle.row_labels.specs.Fitting.{fitting}
 use Rattle.row_labels.proofs.Fitting.{lists-fitting, folder-in}
-use Rattle.row.specs.Row.{rowAnswer, ruled, lostOn}
+use Rattle.row_marks.specs.Opposed.{pairsFit}
+use Rattle.row.specs.Row.{fitChecks, rowAnswer, ruled, lostOn}
 
 -- What a grant carries is dropped, not its number.
 pub ruled-number : (a : Answer) → ruled a .number ≡ a .number
@@ -25,9 +26,9 @@ ruled-number a = by (true-or-false (eqb (a .number) 0))
     by (inr e) = rw e
 
 module _ (r : Register) (row : List ℕ) (o kind : ℕ) (fit : fitting r row o ≡ true) where
-  pub rowAnswer-fits : rowAnswer r row o kind ≡ wallAnswer r row o kind
-  unfolding rowAnswer judge
-  rowAnswer-fits = rw (lists-fitting r row o fit, lt-leb (length row) o (folder-in r row o fit))
+  pub rowAnswer-fits : (r .byPairs && not (pairsFit r)) ≡ false → rowAnswer r row o kind ≡ wallAnswer r row o kind
+  unfolding rowAnswer fitChecks judge
+  rowAnswer-fits pairs = rw (lists-fitting r row o fit, pairs, lt-leb (length row) o (folder-in r row o fit))
 
   pub lostOn-fits : lostOn r row o kind ≡ lost r row o kind
   unfolding lostOn

@@ -1,27 +1,37 @@
 -- A request on a row alone: what is answered and what is lost (document 01, 'The four kinds of request' and 'Where each refusal is
--- checked'). A row may be given with any lists and any folder: rows 1 and 6 of the table judge them. Rows 7 and 8 are not judged here: a
--- kind other than 1 to 4 asks for nothing, and a cell is read by its two rights. An empty row has no folder, so 6 speaks.
+-- checked'; document 02, C-12). A row may be given with any lists and any folder: rows 1, 11 and 6 of the table judge them, 11 by the sizes of the lists
+-- of pairs alone. Rows 7 and 8 are not judged here: a kind other than 1 to 4 asks for nothing, and a cell is read by its two rights. An empty row has no
+-- folder, so 6 speaks.
 use Prim.Native.Nat.{ℕ}
-use mathlib.Core.Bool.{cond, not}
+use mathlib.Core.Bool.{cond, not, _&&_}
 use mathlib.Core.List.{List, [], _∷_}
 use lib.ListN.{length}
 use lib.Dec.{eqb, leb}
-use Rattle.vocabulary.specs.Answer.{Answer, answer, check, judge}
+use Rattle.vocabulary.specs.Answer.{Answer, Check, answer, check, judge}
 use Rattle.register.specs.Register.{Register}
 use Rattle.policy.specs.Rules.{lost}
 use Rattle.policy.specs.Outcome.{wallAnswer}
 use Rattle.row_labels.specs.Fitting.{listsFit, fitting}
+use Rattle.row_marks.specs.Opposed.{pairsFit}
 use Rattle.row.specs.declared.Ruling.{Ruling}
-use Rattle.row.specs.declared.Ruling.the-variants.{Unfit, UnknownFolder, Granted, Rival, Foreign, AtStake}
+use Rattle.row.specs.declared.Ruling.the-variants.{Unfit, BadPairs, UnknownFolder, Granted, Rival, Foreign, AtStake}
 
--- The answer on a row: 1, 6, or what the wall says.
+-- The rows of the table that judge the lists and the folder.
+unfoldable pub fitChecks : Register → List ℕ → ℕ → List Check
+fitChecks r row o =
+    check (not (listsFit r row)) 1 []
+    ∷ check (r .byPairs && not (pairsFit r)) 11 []
+    ∷ check (leb (length row) o) 6 []
+    ∷ []
+
+-- The answer on a row: 1, 11, 6, or what the wall says.
 unfoldable pub rowAnswer : Register → List ℕ → ℕ → ℕ → Answer
-rowAnswer r row o kind =
-    judge (check (not (listsFit r row)) 1 [] ∷ check (leb (length row) o) 6 [] ∷ []) (wallAnswer r row o kind)
+rowAnswer r row o kind = judge (fitChecks r row o) (wallAnswer r row o kind)
 
 -- A ruling, by document 01's numbers; of a grant the number alone.
 abbrev pub rulingAnswer : Ruling → Answer
 rulingAnswer Unfit = answer 1 []
+rulingAnswer BadPairs = answer 11 []
 rulingAnswer UnknownFolder = answer 6 []
 rulingAnswer Granted = answer 0 []
 rulingAnswer (Rival f) = answer 20 (f .0 ∷ [])

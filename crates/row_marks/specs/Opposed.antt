@@ -7,7 +7,7 @@ use lib.ListN.{length, getD}
 use lib.Dec.{eqb, leb}
 use Rattle.vocabulary.specs.Those.{those}
 use Rattle.register.specs.Register.{Register, clientOf, pairs}
-use Rattle.register.specs.Conflict.{paired}
+use Rattle.policy.specs.Conflict.{paired}
 use Rattle.policy.specs.Rules.{cell, canRead}
 
 -- The lists of pairs are of one length and have at most 256 pairs: refusal 11 as far as it concerns their sizes.
