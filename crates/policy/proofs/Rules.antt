@@ -12,7 +12,7 @@ use Rattle.vocabulary.specs.Answer.{answer, judge}
 use Rattle.vocabulary.specs.Those.{some, smallest, member}
 use Rattle.vocabulary.proofs.Those.{those-empty, some-none, smallest-holds, member-those}
 use Rattle.vocabulary.proofs.Judge.{Passed, judge-silent}
-use Rattle.vocabulary.proofs.Bools.{both, and-both, not-both, true-or-false}
+use Rattle.vocabulary.proofs.Bools.{both, not-both, true-or-false}
 use Rattle.register.specs.Register.{Register, folders, clientOf, sanitised}
 use Rattle.policy.specs.Conflict.{inConflict}
 use Rattle.policy.specs.Rules.{cell, canRead, canWrite, reads, writes, revokes, rival, foreign, atStake, rivals, foreigners, stakes, lost}
@@ -56,10 +56,10 @@ differ a b e = eqb-false a b (not-true (eqb a b) e)
 
 module _ (r : Register) (row : List ℕ) (o f : ℕ) where
   pub rival-read : rival r row o f ≡ true → canRead (cell row f) ≡ true
-  rival-read e = both (canRead (cell row f)) (inConflict r f o) e .0
+  rival-read e = needed (canRead (cell row f)) e (λ h. simp h)
 
   pub rival-conflict : rival r row o f ≡ true → inConflict r f o ≡ true
-  rival-conflict e = both (canRead (cell row f)) (inConflict r f o) e .1
+  rival-conflict e = needed (inConflict r f o) e (λ h. rw h (and-false (canRead (cell row f))))
 
   pub foreign-read : foreign r row o f ≡ true → canRead (cell row f) ≡ true
   foreign-read e = needed (canRead (cell row f)) e (λ h. simp h)
@@ -80,7 +80,7 @@ module _ (r : Register) (row : List ℕ) (o f : ℕ) where
   stake-unsanitised e = differ (clientOf r o) 0 (needed (not (sanitised r o)) e (λ h. simp (h, and-false)))
 
   pub rival-found : canRead (cell row f) ≡ true → inConflict r f o ≡ true → rival r row o f ≡ true
-  rival-found a c = and-both a c
+  rival-found a c = rw (a, c)
 
   pub foreign-found : canRead (cell row f) ≡ true → (clientOf r f ≡ 0 → ⊥) → (clientOf r f ≡ clientOf r o → ⊥) → foreign r row o f ≡ true
   foreign-found a c d = simp (a, ne-eqb (clientOf r f) 0 c, ne-eqb (clientOf r f) (clientOf r o) d)
