@@ -3,3 +3,5 @@
 pub mod Register
 -- The register as it is lent:
 pub mod Lent
+-- Claims:
+pub mod Claims

@@ -1,3 +1,4 @@
+-- `judge_pairs` meets its contract: by classes the pairs are not looked at.
 use borrow.Author.Tests.{not-true, not-false}
 use native.Mathlib.Omega.{arith}
 use borrow.Author.Needs.{needs}
