@@ -1,2 +1,52 @@
 -- Internal: the clients in conflict with the one asked for, marked in a set. No rule of document 02 stands here.
-use Prim.Native.Nat.{ℕ}
+use Prim.Native.Nat.{ℕ, _+_, _/_, _%_, _^_, _≤_, _<_}
+use mathlib.Core.Path.{_≡_}
+use mathlib.Core.Bool.{Bool, true, _&&_, _||_}
+use mathlib.Core.List.{List, []}
+use lib.ListN.{length, getD}
+use lib.Dec.{eqb}
+use Rattle.vocabulary.specs.Those.{those, some}
+use Rattle.register.specs.Register.{Register, registerBy}
+use Rattle.register.specs.Conflict.{pairNames}
+use Rattle.policy.specs.Rules.{cell, canRead}
+use Rattle.row_marks.specs.Opposed.{pairsFit}
+
+-- A word's bit at a place.
+unfoldable pub hasBit : ℕ → ℕ → Bool
+hasBit word k = eqb (word / 2 ^ k % 2) 1
+
+-- Client x is in the set.
+abbrev pub marked : List ℕ → List ℕ → ℕ → Bool
+marked blocks bits x = hasBit (getD bits (getD blocks (x / 64) 0) 0) (x % 64)
+
+-- The form of a set to which at most n clients were added: a word for each block, other than 0 if it has clients in the set, and words without
+-- a block are 0.
+pub record Sparse (blocks bits : List ℕ) (n : ℕ) : Type 0 where
+  pub places : length blocks ≡ 1024
+  pub words : length bits ≡ 257
+  pub within : (b : ℕ) → getD blocks b 0 ≤ n
+  pub apart : (a b : ℕ) → 0 < getD blocks a 0 → getD blocks a 0 ≡ getD blocks b 0 → a ≡ b
+  pub bare : (k : ℕ) → n < k → getD bits k 0 ≡ 0
+  pub none : getD bits 0 0 ≡ 0
+
+-- The clients that pass a test, at most one, were added to such a set.
+pub record Grown (blocks bits blocks' bits' : List ℕ) (p : ℕ → Bool) (n : ℕ) : Type 0 where
+  pub sparse : Sparse blocks' bits' (n + 1)
+  pub adds : (x : ℕ) → marked blocks' bits' x ≡ (marked blocks bits x || p x)
+
+-- The pair of a and b names c and x.
+abbrev pub between : ℕ → ℕ → ℕ → ℕ → Bool
+between a b c x = (eqb a x && eqb b c) || (eqb a c && eqb b x)
+
+-- The clients in conflict with c by the first n pairs are marked.
+pub record Marked (firsts seconds : List ℕ) (c : ℕ) (blocks bits : List ℕ) (n : ℕ) : Type 0 where
+  pub sparse : Sparse blocks bits n
+  pub told : (x : ℕ) → marked blocks bits x ≡ some (those (pairNames (registerBy 0 [] [] true firsts seconds) x c) n)
+
+-- The lists fit the row: what is asked before any walk.
+abbrev pub fitted : Register → List ℕ → Bool
+fitted r row = eqb (length (r .clients)) (length row) && pairsFit r
+
+-- Folder f may be read, and its client is marked.
+abbrev pub readable : List ℕ → List ℕ → List ℕ → List ℕ → ℕ → Bool
+readable row clients blocks bits f = canRead (cell row f) && marked blocks bits (getD clients f 0)

@@ -1,1 +1,51 @@
-// The search for a rival by pairs, by look-ups (document 02, C-12).
+// The search for a rival by pairs, on a row alone (document 02, C-12): the opponents of the client asked for are marked once, then each folder is
+// looked up, so that the work grows with folders plus pairs. Lists of any lengths may be given; whether they fit is asked once, before any walk.
+mod client_set; // a set of clients
+mod marking; // the opponents, marked
+
+use crate::client_set::is_marked;
+use crate::marking::mark_all;
+use ids::ClientNo;
+ghost use mathlib.Core.Path.{_≡_};
+ghost use lib.ListN.{length, getD};
+ghost use Rattle.vocabulary.specs.Those.{those};
+ghost use Rattle.register.specs.Lent.{lentClients};
+ghost use Rattle.row_marks.specs.Marks.{Sparse, fitted, readable};
+ghost use Rattle.row_marks.specs.Opposed.{firstOpposer};
+
+// Whether the clients are of the row's length, and the pairs fit.
+fn fits(row: &[u8], clients: &[u16], firsts: &[u16], seconds: &[u16]) -> bool
+    ensures { λ r. ⌜ r ≡ fitted (lentClients clients firsts seconds) (now (row .entry)) ⌝ }
+{
+    (clients.len() == row.len()) & ((firsts.len() == seconds.len()) & (firsts.len() <= 256))
+}
+
+// The first readable folder of a marked client, or the row's length. What the walk has passed has none.
+fn first(row: &[u8], clients: &[u16], blocks: &[u16; 1024], bits: &[u64; 257]) -> usize
+    requires { ⌜ (length (now clients) ≡ length (now row)) × Sparse (now blocks) (now bits) 256 ⌝ }
+    ensures { λ r. ⌜ r ≡ getD (those (readable (now (row .entry)) (now (clients .entry)) (now (blocks .entry)) (now (bits .entry))) (length (now (row .entry)))) 0 (length (now (row .entry))) ⌝ }
+{
+    let mut f = 0;
+    while f < row.len() {
+        let cell = row[f];
+        let client = ClientNo(clients[f]);
+        if (cell % 2 == 1) & is_marked(blocks, bits, client) {
+            return f;
+        }
+        f += 1;
+    }
+    f
+}
+
+// The first readable folder of a client in conflict by pairs with `client`, or the row's length; that too where the lists do not fit.
+pub fn first_marked(row: &[u8], clients: &[u16], firsts: &[u16], seconds: &[u16], client: ClientNo) -> usize
+    ensures { λ r. ⌜ r ≡ firstOpposer (lentClients clients firsts seconds) (now (row .entry)) (client .0) ⌝ }
+{
+    if !fits(row, clients, firsts, seconds) {
+        return row.len();
+    }
+    let mut blocks = [0u16; 1024];
+    let mut bits = [0u64; 257];
+    mark_all(firsts, seconds, client, &mut blocks, &mut bits);
+    first(row, clients, &blocks, &bits)
+}
