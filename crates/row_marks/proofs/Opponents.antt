@@ -12,7 +12,7 @@ use Rattle.vocabulary.specs.Those.{those, some}
 use Rattle.vocabulary.proofs.Those.{those-agree, some-those-suc}
 use Rattle.vocabulary.proofs.Bools.{not-both, both, neither}
 use Rattle.register.specs.Register.{Register, pairs, clientOf}
-use Rattle.register.specs.Conflict.{paired}
+use Rattle.policy.specs.Conflict.{paired}
 use Rattle.row_marks.specs.Marks.{Sparse, Grown, Marked, marked, between, fitted, readable}
 use Rattle.row_marks.specs.Opposed.{pairsFit, opposed, opposers, firstOpposer}
 use Rattle.row_marks.proofs.Marks.{sparse-more, empty-sparse, empty-marked}

@@ -7,7 +7,7 @@ use lib.ListN.{length, getD}
 use lib.Dec.{eqb}
 use Rattle.vocabulary.specs.Those.{those, some}
 use Rattle.register.specs.Register.{Register, registerBy}
-use Rattle.register.specs.Conflict.{pairNames}
+use Rattle.policy.specs.Conflict.{pairNames}
 use Rattle.policy.specs.Rules.{cell, canRead}
 use Rattle.row_marks.specs.Opposed.{pairsFit}
 
