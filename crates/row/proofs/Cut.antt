@@ -1,7 +1,7 @@
 -- The rules by the cut of the code: the wall's answer, case by case, by the first find of each search (the row's length stands for 'none');
 -- the write rights lost, by the folders at stake.
 use Prim.Native.Nat.{ℕ, _≤_, _<_}
-use mathlib.Core.Path.{_≡_, refl, sym, _∙_}
+use mathlib.Core.Path.{_≡_, refl, sym, ap, _∙_}
 use mathlib.Core.Logic.{_⊎_, inl, inr, ⊎-elim}
 use mathlib.Core.Bool.{Bool, true, false, cond, not, _&&_}
 use mathlib.Core.List.{List, [], _∷_}
@@ -13,7 +13,7 @@ use Rattle.vocabulary.specs.Those.{those, some, smallest}
 use Rattle.vocabulary.proofs.Those.{first-some, first-none, those-agree, those-never}
 use Rattle.vocabulary.proofs.Bools.{either, both, true-or-false}
 use Rattle.ids.specs.declared.Label.{Label}
-use Rattle.register.specs.Register.{Register, registerBy, folders, clientOf}
+use Rattle.register.specs.Register.{Register, registerBy, registerOf, folders, clientOf}
 use Rattle.policy.specs.Conflict.{oneClass, paired}
 use Rattle.policy.specs.Rules.{cell, canRead, writes, revokes, rival, rivals, foreigners, stakes, lost}
 use Rattle.policy.specs.Outcome.{wallChecks, wallAnswer}
@@ -32,6 +32,10 @@ writes-other : (kind : ℕ) → writes kind ≡ true → eqb kind 2 ≡ false
 writes-other kind e =
     ⊎-elim (λ a. rw (eqb-true kind 3 a)) (λ a. rw (eqb-true kind 4 a)) (either (eqb kind 3) (eqb kind 4) e)
 
+-- Whether the lists of pairs fit is asked of them alone.
+abbrev pub alone : Register → Register
+alone r = registerBy 0 [] [] true (r .firsts) (r .seconds)
+
 -- Where lists and pairs fit, the first rival is that of the rules, in either mode.
 module _ (r : Register) (row : List ℕ) (beside : Alongside row (r .classes) (r .clients)) (o : ℕ) (l : Label) (asked : l ≡ labelAt (r .classes) (r .clients) o) where
   first-by-pairs : pairsFit r ≡ true → firstOpposer (registerBy 0 [] (r .clients) true (r .firsts) (r .seconds)) row (l .client .0)
@@ -39,17 +43,17 @@ module _ (r : Register) (row : List ℕ) (beside : Alongside row (r .classes) (r
   unfolding opposers pairsFit paired
   first-by-pairs fit = rw (asked, eq-eqb (length (r .clients)) (length row) (beside .1), fit)
 
-  first-is : (r .byPairs && not (pairsFit r)) ≡ false → firstRival r row l ≡ getD (rivals r row o) 0 (length row)
-  unfolding rivals
+  first-is : (r .byPairs && not (pairsFit (alone r))) ≡ false → firstRival r row l ≡ getD (rivals r row o) 0 (length row)
+  unfolding rivals pairsFit
   first-is fit = rw (beside .0) (by (r .byPairs) refl)
     where
       by : (mode : Bool) → r .byPairs ≡ mode →
           cond mode (firstOpposer (registerBy 0 [] (r .clients) true (r .firsts) (r .seconds)) row (l .client .0)) (firstOf Rival row (r .classes) (r .clients) l)
           ≡ getD (those (λ f. canRead (cell row f) && cond mode (paired r (clientOf r f) (clientOf r o)) (oneClass r f o)) (length row)) 0 (length row)
-      by true e = first-by-pairs (not-false (pairsFit r) (rw e at fit))
+      by true e = first-by-pairs (not-false (pairsFit r) (sym (ap (λ (b : Bool). b && not (pairsFit r)) e) ∙ fit))
       by false e = rw asked
 
-module _ (r : Register) (row : List ℕ) (beside : Alongside row (r .classes) (r .clients)) (fit : (r .byPairs && not (pairsFit r)) ≡ false)
+module _ (r : Register) (row : List ℕ) (beside : Alongside row (r .classes) (r .clients)) (fit : (r .byPairs && not (pairsFit (alone r))) ≡ false)
     (o kind : ℕ) (l : Label) (asked : l ≡ labelAt (r .classes) (r .clients) o) where
   -- What a search for a sort found.
   abbrev Finds : Sort → ℕ → Type 0
@@ -78,8 +82,9 @@ module _ (r : Register) (row : List ℕ) (beside : Alongside row (r .classes) (r
   no-rival : {n : ℕ} → n ≡ firstRival r row l → length row ≤ n → some (rivals r row o) ≡ false
   unfolding rivals
   no-rival {n} is h =
-      let e : n ≡ getD (rivals r row o) 0 (folders r) = rw same (is ∙ first-is r row beside o l asked fit) in
-      first-none (rival r row o) (folders r) (rw (← e, same) h)
+      let e : n ≡ getD (rivals r row o) 0 (length row) = is ∙ first-is r row beside o l asked fit in
+      let g : length row ≤ getD (rivals r row o) 0 (length row) = rw (← e) h in
+      first-none (rival r row o) (folders r) (rw (← same) at g)
 
   pub says-rival : {n : ℕ} → n ≡ firstRival r row l → n < length row → answer 20 (n ∷ []) ≡ ruled (wallAnswer r row o kind)
   unfolding wallAnswer wallChecks judge
@@ -106,24 +111,27 @@ module _ (r : Register) (row : List ℕ) (beside : Alongside row (r .classes) (r
     unfolding wallAnswer wallChecks judge
     grants-read w e = rw (no-rival passed past, w, ne-eqb kind 2 e)
 
--- Rows 1, 11 and 6 of the table, and what follows them.
+-- Rows 1, 11 and 6 of the table, and what follows them. Whether the lists fit is asked of them alone too.
 module _ (r : Register) (row : List ℕ) (o kind : ℕ) where
-  pub says-unfit : listsFit r row ≡ false → answer 1 [] ≡ ruled (rowAnswer r row o kind)
-  unfolding rowAnswer fitChecks judge
+  abbrev listed : Bool
+  listed = listsFit (registerOf 0 (r .classes) (r .clients)) row
+
+  pub says-unfit : listed ≡ false → answer 1 [] ≡ ruled (rowAnswer r row o kind)
+  unfolding rowAnswer fitChecks judge listsFit
   says-unfit e = rw e
 
-  pub says-pairs : listsFit r row ≡ true → (r .byPairs && not (pairsFit r)) ≡ true → answer 11 [] ≡ ruled (rowAnswer r row o kind)
-  unfolding rowAnswer fitChecks judge
+  pub says-pairs : listed ≡ true → (r .byPairs && not (pairsFit (alone r))) ≡ true → answer 11 [] ≡ ruled (rowAnswer r row o kind)
+  unfolding rowAnswer fitChecks judge listsFit pairsFit
   says-pairs e p = rw (e, p)
 
-  pub says-unknown : listsFit r row ≡ true → (r .byPairs && not (pairsFit r)) ≡ false → length row ≤ o → answer 6 [] ≡ ruled (rowAnswer r row o kind)
-  unfolding rowAnswer fitChecks judge
+  pub says-unknown : listed ≡ true → (r .byPairs && not (pairsFit (alone r))) ≡ false → length row ≤ o → answer 6 [] ≡ ruled (rowAnswer r row o kind)
+  unfolding rowAnswer fitChecks judge listsFit pairsFit
   says-unknown e p h = rw (e, p, le-leb (length row) o h)
 
   -- Past them, the wall speaks.
-  pub says-wall : listsFit r row ≡ true → (r .byPairs && not (pairsFit r)) ≡ false → o < length row → {a : Answer} → a ≡ ruled (wallAnswer r row o kind) →
+  pub says-wall : listed ≡ true → (r .byPairs && not (pairsFit (alone r))) ≡ false → o < length row → {a : Answer} → a ≡ ruled (wallAnswer r row o kind) →
       a ≡ ruled (rowAnswer r row o kind)
-  unfolding rowAnswer fitChecks judge
+  unfolding rowAnswer fitChecks judge listsFit pairsFit
   says-wall e p h is = rw (e, p, lt-leb (length row) o h) is
 
 -- The first of two tests, that lists and folder fit.
