@@ -1,4 +1,4 @@
-// The decision on a request, on the row of the login that asks (document 01, 'Where each refusal is checked'): 1 for a row of over 512 folders,
+// The decision on a request, on the row of the login that asks (document 01, 'Where each refusal is checked'; document 02, C-12): 1 for a row of over 512 folders,
 // rows 8 and 9 of the table, then what the row's crate says. Any row, lists and folder may be given; the kind is judged by the caller.
 use ids::FolderNo;
 use ids::Request;
@@ -7,7 +7,7 @@ use log_writer::WallRefusal;
 use response::Response;
 use row::Ruling;
 ghost use mathlib.Core.Path.{_≡_};
-ghost use Rattle.register.specs.Lent.{lentFolders};
+ghost use Rattle.register.specs.Lent.{lentFoldersBy};
 ghost use Rattle.row.specs.Row.{rulingAnswer, ruled};
 ghost use Rattle.log_writer.specs.Reply.{requestOf};
 ghost use Rattle.row_decision.specs.Decision.{judgedBy, judgedAs, servedAnswer};
@@ -28,6 +28,7 @@ fn by_ruling(ruling: Ruling) -> Decision
 {
     match ruling {
         Ruling::Unfit => Decision::Refused(Response::OutOfRange),
+        Ruling::BadPairs => Decision::Refused(Response::BadPairs),
         Ruling::UnknownFolder => Decision::Refused(Response::UnknownFolder),
         Ruling::Granted => Decision::Granted,
         Ruling::Rival(f) => Decision::Barred(WallRefusal::Rival(f)),
@@ -41,11 +42,14 @@ pub fn decide_row(
     row: &[u8],
     classes: &[u16],
     clients: &[u16],
+    by_pairs: bool,
+    firsts: &[u16],
+    seconds: &[u16],
     asked: Request,
     size: usize,
     tail: Tail,
 ) -> Decision
-    ensures { λ r. ⌜ judgedBy r ≡ judgedAs (ruled (servedAnswer (lentFolders classes clients) (now (row .entry)) (requestOf asked) size (tail .end))) ⌝ }
+    ensures { λ r. ⌜ judgedBy r ≡ judgedAs (ruled (servedAnswer (lentFoldersBy classes clients «by_pairs» firsts seconds) (now (row .entry)) (requestOf asked) size (tail .end))) ⌝ }
 {
     if 512 < row.len() {
         return Decision::Refused(Response::OutOfRange);
@@ -57,5 +61,14 @@ pub fn decide_row(
     if size < tail.end {
         return Decision::Refused(Response::BadEnd);
     }
-    by_ruling(row::decide(row, classes, clients, asked.folder, asked.kind))
+    by_ruling(row::decide(
+        row,
+        classes,
+        clients,
+        by_pairs,
+        firsts,
+        seconds,
+        asked.folder,
+        asked.kind,
+    ))
 }

@@ -10,13 +10,14 @@ use borrow.Author.Tests.{leb-false, lt-ltb, not-false}
 use Rattle.vocabulary.specs.Answer.{Answer, answer, check}
 use Rattle.vocabulary.proofs.Bools.{true-or-false, not-both, neither}
 use Rattle.vocabulary.proofs.Judge.{judge-silent}
-use Rattle.register.specs.Register.{Register}
+use Rattle.register.specs.Register.{Register, registerOf}
 use Rattle.response.specs.declared.Response.{Response}
 use Rattle.response.specs.Response.{responseAnswer}
-use Rattle.policy.specs.Rules.{lost}
+use Rattle.policy.specs.Rules.{lost, rowAfter}
 use Rattle.policy.specs.Outcome.{Request, Log, wallChecks, wallAnswer, byWall, isLogged, unchanged}
 use Rattle.row_labels.specs.Fitting.{listsFit, fitting}
-use Rattle.row.specs.Row.{rowAnswer, ruled, lostOn}
+use Rattle.row.specs.Row.{fitChecks, rowAnswer, ruled, lostOn}
+use Rattle.row_grant.specs.Granted.{rowGranted}
 use Rattle.row.proofs.Fitting.{ruled-number}
 use Rattle.log_writer.specs.declared.WallRefusal.{WallRefusal}
 use Rattle.log_writer.specs.declared.WallRefusal.the-variants.{Rival, Foreign, AtStake}
@@ -36,12 +37,12 @@ ruled-other b a n e = by (true-or-false (eqb (a .number) 0))
 
 -- A grant on a row carries the folders that lose a write right.
 row-granted : (r : Register) (row : List ℕ) (o kind : ℕ) → rowAnswer r row o kind .number ≡ 0 → rowAnswer r row o kind ≡ answer 0 (lostOn r row o kind)
-unfolding rowAnswer wallAnswer wallChecks fitting lostOn
+unfolding rowAnswer fitChecks wallAnswer wallChecks fitting lostOn
 row-granted r row o kind n =
-    let a = judge-silent (check (not (listsFit r row)) 1 [] ∷ check (leb (length row) o) 6 [] ∷ []) (wallAnswer r row o kind) 0 refl n in
+    let a = judge-silent (fitChecks r row o) (wallAnswer r row o kind) 0 refl n in
     let b = judge-silent (wallChecks r row o kind) (answer 0 (lost r row o kind)) 0 refl (rw (a .1) at n) in
     let f : listsFit r row ≡ true = not-false (listsFit r row) (a .0 .0) in
-    let k : ltb o (length row) ≡ true = lt-ltb o (length row) (leb-false (length row) o (a .0 .1 .0)) in
+    let k : ltb o (length row) ≡ true = lt-ltb o (length row) (leb-false (length row) o (a .0 .1 .1 .0)) in
     a .1 ∙ (b .1 ∙ rw (f, k))
 
 module _ (r : Register) (row : List ℕ) (q : Request) (log : Log) where
@@ -54,8 +55,9 @@ module _ (r : Register) (row : List ℕ) (q : Request) (log : Log) where
       let e = judge-silent (rowChecks row (length (log .bytes)) (log .end)) (rowAnswer r row (q .folder) (q .kind)) 0 refl n .1 in
       e ∙ row-granted r row (q .folder) (q .kind) (rw e at n)
 
-  pub served-granted : judgedBy Granted ≡ judgedAs (ruled said) → grantedOutcome r row q log ≡ servedOutcome r row q log
-  unfolding servedOutcome grantedOutcome
+  -- The carrying out of a grant looks at no conflict.
+  pub served-granted : judgedBy Granted ≡ judgedAs (ruled said) → grantedOutcome (registerOf 0 (r .classes) (r .clients)) row q log ≡ servedOutcome r row q log
+  unfolding servedOutcome grantedOutcome lostOn lost rowGranted rowAfter fitting listsFit
   served-granted d = rw (said-granted (sym (ap (λ (j : Judged). j .answer .number) d ∙ ruled-number said)))
 
   pub served-barred : (w : WallRefusal) → judgedBy (Barred w) ≡ judgedAs (ruled said) →

@@ -5,7 +5,7 @@ use log_writer::Reply;
 use log_writer::Tail;
 use row_decision::Decision;
 ghost use mathlib.Core.Path.{_≡_};
-ghost use Rattle.register.specs.Lent.{lentFolders};
+ghost use Rattle.register.specs.Lent.{lentFoldersBy};
 ghost use Rattle.log_writer.specs.Reply.{requestOf, lentLog, replied};
 ghost use Rattle.row_request.specs.Served.{servedOutcome};
 
@@ -16,13 +16,26 @@ pub fn serve(
     row: &mut [u8],
     classes: &[u16],
     clients: &[u16],
+    by_pairs: bool,
+    firsts: &[u16],
+    seconds: &[u16],
     asked: Request,
     log: &mut [u8],
     tail: Tail,
 ) -> Reply
-    ensures { λ r. ⌜ replied r (now (row .exit)) (now (log .exit)) ≡ servedOutcome (lentFolders classes clients) (now (row .entry)) (requestOf asked) (lentLog log tail) ⌝ }
+    ensures { λ r. ⌜ replied r (now (row .exit)) (now (log .exit)) ≡ servedOutcome (lentFoldersBy classes clients «by_pairs» firsts seconds) (now (row .entry)) (requestOf asked) (lentLog log tail) ⌝ }
 {
-    let decision = row_decision::decide_row(row, classes, clients, asked, log.len(), tail);
+    let decision = row_decision::decide_row(
+        row,
+        classes,
+        clients,
+        by_pairs,
+        firsts,
+        seconds,
+        asked,
+        log.len(),
+        tail,
+    );
     match decision {
         Decision::Granted => grant::grant(row, classes, clients, asked, log, tail),
         Decision::Barred(refusal) => log_writer::log_refusal(log, tail, asked, refusal),

@@ -12,8 +12,8 @@ returns c =
 first-above-requires : tie.Need-first-above-requires
 first-above-requires c κs = search needs
 
-cast-t11 : tie.Need-cast-t11
-cast-t11 c = search needs
+cast-t14 : tie.Need-cast-t14
+cast-t14 c = search needs
 
 returns-2 : tie.Need-returns-2
 returns-2 c =
@@ -39,7 +39,7 @@ decide-row-spec =
     (tie.spec
     returns
     first-above-requires
-    cast-t11
+    cast-t14
     returns-2
     returns-3
     decide-requires

@@ -1,6 +1,6 @@
 -- `serve` meets its contract: each decision is carried out as the rules leave it.
 use mathlib.Core.Path.{_∙_}
-use Rattle.register.specs.Register.{registerOf}
+use Rattle.register.specs.Register.{registerBy}
 use Rattle.log_writer.specs.Reply.{requestOf, logOf}
 use Rattle.row_request.proofs.Served.{served-granted, served-barred, served-refused}
 use borrow.Author.Needs.{needs}
@@ -43,16 +43,16 @@ same-length-4 c = search needs
 
 returns-2 : tie.Need-returns-2
 returns-2 c =
-    c .before .before .log-refusal .ensures (c .before .before .before .before .before .before .before .before .before .before .before .before .before .args .row .now) ∙ served-barred _ _ _ _ (c .before .before .before .before .before .decision .given .0 .0) (rw (c .before .before .before .before .before .decision .given .1) at (c .before .before .before .before .before .before .before .decide-row .ensures))
+    c .before .before .log-refusal .ensures (c .before .before .before .before .before .before .before .before .before .before .before .before .before .before .before .args .row .now) ∙ served-barred _ _ _ _ (c .before .before .before .before .before .decision .given .0 .0) (rw (c .before .before .before .before .before .decision .given .1) at (c .before .before .before .before .before .before .before .decide-row .ensures))
 
 same-length-5 : tie.Need-same-length-5
 same-length-5 c = search needs
 
 returns-3 : tie.Need-returns-3
 returns-3 c =
-    let a = c .before .before .before .before .before .before .before .before .before .args in
+    let a = c .before .before .before .before .before .before .before .before .before .before .before .args in
     let d = rw (c .before .decision2 .given .1) at (c .before .before .before .decide-row .ensures) in
-    served-refused (registerOf 0 (a .classes .now) (a .clients .now)) (a .row .now) (requestOf (a .asked)) (logOf (a .log .now) (a .tail)) (c .before .decision2 .given .0 .0) d
+    served-refused (registerBy 0 (a .classes .now) (a .clients .now) (a .by-pairs) (a .firsts .now) (a .seconds .now)) (a .row .now) (requestOf (a .asked)) (logOf (a .log .now) (a .tail)) (c .before .decision2 .given .0 .0) d
 
 pub serve-spec : {M : Type 1} → statement M
 serve-spec =
