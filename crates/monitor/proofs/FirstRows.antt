@@ -2,26 +2,28 @@
 use Prim.Native.Nat.{ℕ, _+_, _*_, _-_, _≤_, _<_}
 use mathlib.Core.Path.{_≡_, refl, sym, ap, _∙_}
 use mathlib.Core.Logic.{_⊎_, inl, inr, ⊎-elim}
-use mathlib.Core.Bool.{Bool, true, false, cond}
+use mathlib.Core.Bool.{Bool, true, false, cond, not, _&&_, _||_}
 use mathlib.Core.List.{List, [], _∷_, _++_, append-assoc}
 use native.Mathlib.Nat.{mul-le-mul-right, mul-le-mul-left, le-trans}
 use lib.ListN.{length, drop}
 use lib.Dec.{eqb, ltb}
-use borrow.Author.Tests.{leb-false, eqb-true, le-ltb, not-false}
+use borrow.Author.Tests.{leb-false, eqb-true, le-leb, le-ltb, ltb-false, not-false}
 use Rattle.vocabulary.specs.Answer.{Answer, Check, answer, judge}
-use Rattle.vocabulary.specs.Those.{those}
+use Rattle.vocabulary.specs.Those.{those, some}
 use Rattle.vocabulary.proofs.Judge.{Passed, judge-append, judge-passed, judge-either, passed-append}
-use Rattle.vocabulary.proofs.Bools.{not-both, true-or-false}
+use Rattle.vocabulary.proofs.Bools.{not-both, neither, true-or-false}
 use Rattle.log_bytes.specs.Record.{recordBytes}
-use Rattle.register.specs.Register.{Register, registerOf, folders, inRange, registerChecks, registerAnswer}
+use Rattle.register.specs.Register.{Register, registerBy, folders, inRange, pairs, badPair, badPairs, registerChecks, registerAnswer}
 use Rattle.register.proofs.Answers.{Ranged, inRange-ranged}
+use Rattle.policy.specs.Conflict.{paired}
 use Rattle.policy.specs.Rules.{rowOf, withRow, cell, rowAfter, rivals, foreigners, stakes, lost}
 use Rattle.policy.specs.Outcome.{Request, Log, Outcome, requestChecks, wallChecks, wallAnswer, decision, isLogged, recordOf, unchanged, matrixAfter, logged, outcome, told}
 use Rattle.policy.proofs.Outcome.{logged-silent, outcome-unlogged}
 use Rattle.policy.proofs.Rows.{row-fits, length-rowOf, withRow-rowOf}
 use Rattle.cells.specs.Above.{aboves}
 use Rattle.row_labels.specs.Fitting.{listsFit, fitting}
-use Rattle.row.specs.Row.{rowAnswer}
+use Rattle.row_marks.specs.Opposed.{pairsFit}
+use Rattle.row.specs.Row.{fitChecks, rowAnswer}
 use Rattle.row_grant.specs.Granted.{rowGranted}
 use Rattle.row_labels.proofs.Fitting.{fits-row}
 use Rattle.row.proofs.Fitting.{rowAnswer-fits}
@@ -32,6 +34,18 @@ use Rattle.monitor.specs.Front.{passed, frontChecks, fourToSeven, oneToS
 
 pub product-fits : {p f : ℕ} → p ≤ 128 → f ≤ 512 → p * f ≤ 65536
 product-fits {p} {f} a b = le-trans (mul-le-mul-right f a) (mul-le-mul-left 128 b)
+
+-- Pairs that 11 lets pass fit.
+pairs-fit : (r : Register) → (r .byPairs && badPairs r) ≡ false → (r .byPairs && not (pairsFit r)) ≡ false
+unfolding badPairs pairsFit
+pairs-fit r pass = by (r .byPairs) pass
+  where
+    by : (mode : Bool) → (mode && badPairs r) ≡ false → (mode && not (pairsFit r)) ≡ false
+    by false e = refl
+    by true e =
+        let sizes = neither (not (eqb (pairs r) (length (r .seconds))) || ltb 256 (pairs r)) (some (those (badPair r) (pairs r))) e .0 in
+        let s = neither (not (eqb (pairs r) (length (r .seconds)))) (ltb 256 (pairs r)) sizes in
+        rw (not-false (eqb (pairs r) (length (r .seconds))) (s .0), le-leb (pairs r) 256 (ltb-false 256 (pairs r) (s .1)))
 
 -- ---- the register's rows
 
@@ -66,6 +80,7 @@ module _ (r : Register) where
 pub record Opened (r : Register) (m : List ℕ) (q : Request) : Type 0 where
   pub passed : Passed (registerChecks r ++ frontChecks (r .logins) (folders r) (length m) q)
   pub ranged : Ranged r
+  pub paired : (r .byPairs && not (pairsFit r)) ≡ false
   pub whole : length m ≡ r .logins * folders r
   pub login-known : q .login < r .logins
   pub folder-known : q .folder < folders r
@@ -87,6 +102,7 @@ module _ (r : Register) (m : List ℕ) (q : Request) where
       record {
         passed = p;
         ranged = inRange-ranged r (not-false (inRange r) (a .0 .0));
+        paired = pairs-fit r (a .0 .1 .1 .1 .0);
         whole = eqb-true (length m) (r .logins * folders r) (not-false (eqb (length m) (r .logins * folders r)) (a .1 .0));
         login-known = leb-false (r .logins) (q .login) (a .1 .1 .0);
         folder-known = leb-false (folders r) (q .folder) (a .1 .1 .1 .0);
@@ -168,7 +184,7 @@ module _ (r : Register) (m : List ℕ) (q : Request) (log : Log) where
 
     late-served : late ≡ servedAnswer r row q (length (log .bytes)) (log .end)
     unfolding servedAnswer requestChecks rowChecks judge
-    late-served = rw (too-large, le-ltb 512 (length row) (rw (row-length o) (o .ranged .folders-few)), rowAnswer-fits r row (q .folder) (q .kind) fits)
+    late-served = rw (too-large, le-ltb 512 (length row) (rw (row-length o) (o .ranged .folders-few)), rowAnswer-fits r row (q .folder) (q .kind) fits (o .paired))
 
     outcome-open : told (outcome r m q log) ≡ inMatrix (servedOutcome r row q log)
     unfolding outcome servedOutcome
@@ -189,18 +205,18 @@ module _ (r : Register) (m : List ℕ) (q : Request) (log : Log) where
           (λ p. not-both (ap isLogged (judge-passed (front r m q) passed p)) (rw e at f))
           (judge-either (front r m q) passed late)
 
-module _ (p : ℕ) (classes clients : List ℕ) where
+module _ (p : ℕ) (classes clients : List ℕ) (byPairs : Bool) (firsts seconds : List ℕ) where
   abbrev register : Register
-  register = registerOf p classes clients
+  register = registerBy p classes clients byPairs firsts seconds
 
   -- The rules on a row do not look at the register's logins.
   served-folders : (row : List ℕ) (q : Request) (log : Log) →
-      servedOutcome (registerOf p classes clients) row q log ≡ servedOutcome (registerOf 0 classes clients) row q log
-  unfolding servedOutcome servedAnswer rowAnswer rowGranted fitting listsFit wallAnswer wallChecks rivals foreigners stakes lost rowAfter
+      servedOutcome (registerBy p classes clients byPairs firsts seconds) row q log ≡ servedOutcome (registerBy 0 classes clients byPairs firsts seconds) row q log
+  unfolding servedOutcome servedAnswer rowAnswer fitChecks pairsFit rowGranted fitting listsFit wallAnswer wallChecks rivals paired foreigners stakes lost rowAfter
   served-folders row q log = refl
 
   -- What a request leaves on the row of the login that asks, in its place in the matrix.
-  pub outcome-served : (m : List ℕ) (q : Request) (log : Log) (x : Outcome) → Opened (registerOf p classes clients) m q →
-      x ≡ servedOutcome (registerOf 0 classes clients) (rowOf (registerOf p classes clients) m (q .login)) q log →
-      record { answer = x .answer; matrix = withRow (registerOf p classes clients) m (q .login) (x .matrix); log = x .log } ≡ told (outcome (registerOf p classes clients) m q log)
+  pub outcome-served : (m : List ℕ) (q : Request) (log : Log) (x : Outcome) → Opened register m q →
+      x ≡ servedOutcome (registerBy 0 classes clients byPairs firsts seconds) (rowOf register m (q .login)) q log →
+      record { answer = x .answer; matrix = withRow register m (q .login) (x .matrix); log = x .log } ≡ told (outcome register m q log)
   outcome-served m q log x o e = ap (inMatrix register m q log) (e ∙ sym (served-folders (rowOf register m (q .login)) q log)) ∙ sym (outcome-open register m q log o)

@@ -1,10 +1,10 @@
-// Rows 1 to 7 of the table: register, matrix and request. Where they are passed the response is a grant, with nothing taken back yet.
+// Rows 1 to 7 of the table, 11 among them after 3: register, matrix and request. Where they are passed the response is a grant, with nothing taken back yet.
 use ids::Request;
 use register_check::Verdict;
 use response::Response;
 ghost use Prim.Native.Nat.{_≤_};
 ghost use mathlib.Core.Path.{_≡_};
-ghost use Rattle.register.specs.Lent.{lent};
+ghost use Rattle.register.specs.Lent.{lentBy};
 ghost use Rattle.response.specs.Response.{responseAnswer};
 ghost use Rattle.log_writer.specs.Reply.{requestOf};
 ghost use Rattle.monitor.specs.Front.{fourToSeven, oneToSeven};
@@ -32,21 +32,25 @@ fn known(logins: usize, folders: usize, size: usize, asked: Request) -> Response
     Response::Granted(0)
 }
 
-// Rows 1 to 7; `size` is the matrix's length.
+// Rows 1 to 7 and 11; `size` is the matrix's length.
 pub(crate) fn judge_front(
     logins: usize,
     classes: &[u16],
     clients: &[u16],
+    by_pairs: bool,
+    firsts: &[u16],
+    seconds: &[u16],
     size: usize,
     asked: Request,
 ) -> Response
-    ensures { λ r. ⌜ responseAnswer r ≡ oneToSeven (lent logins classes clients) size (requestOf asked) ⌝ }
+    ensures { λ r. ⌜ responseAnswer r ≡ oneToSeven (lentBy logins classes clients «by_pairs» firsts seconds) size (requestOf asked) ⌝ }
 {
-    let verdict = register_check::check(logins, classes, clients);
+    let verdict = register_check::check(logins, classes, clients, by_pairs, firsts, seconds);
     match verdict {
         Verdict::OutOfRange => Response::OutOfRange,
         Verdict::LoneZero(f) => Response::LoneZero(f),
         Verdict::TwoClasses(f, g) => Response::TwoClasses(f, g),
+        Verdict::BadPairs => Response::BadPairs,
         Verdict::Accepted => known(logins, classes.len(), size, asked),
     }
 }

@@ -1,6 +1,6 @@
 -- `request` meets its contract: a refusal of the first rows is the outcome; otherwise the row is served in its place in the matrix.
 use native.Mathlib.Nat.{add-sub-cancel-left}
-use Rattle.register.specs.Register.{registerOf}
+use Rattle.register.specs.Register.{registerBy}
 use Rattle.log_writer.specs.Reply.{requestOf, logOf}
 use Rattle.response.proofs.NotGranted.{not-granted}
 use Rattle.monitor.proofs.FirstRows.{opened, row-within, outcome-served, outcome-refused}
@@ -20,12 +20,12 @@ cast-start c = search needs
 
 mul-start : tie.Need-mul-start
 mul-start c =
-    let w = row-within (opened _ (c .before .before .before .before .before .before .before .before .args .matrix .now) _ _ (rw (c .before .enum-told .given .1) at (c .before .before .before .judge-front .ensures))) in
+    let w = row-within (opened _ (c .before .before .before .before .before .before .before .before .before .before .args .matrix .now) _ _ (rw (c .before .enum-told .given .1) at (c .before .before .before .judge-front .ensures))) in
     omega arith
 
 add-stop : tie.Need-add-stop
 add-stop c =
-    let w = row-within (opened _ (c .before .before .before .before .before .before .before .before .args .matrix .now) _ _ (rw (c .before .enum-told .given .1) at (c .before .before .before .judge-front .ensures))) in
+    let w = row-within (opened _ (c .before .before .before .before .before .before .before .before .before .before .args .matrix .now) _ _ (rw (c .before .enum-told .given .1) at (c .before .before .before .judge-front .ensures))) in
     omega arith
 
 sub-serve : tie.Need-sub-serve
@@ -36,7 +36,7 @@ part-serve-start c = search needs
 
 part-serve-end : tie.Need-part-serve-end
 part-serve-end c =
-    let w = row-within (opened _ (c .before .before .before .before .before .before .before .before .args .matrix .now) _ _ (rw (c .before .enum-told .given .1) at (c .before .before .before .judge-front .ensures))) in
+    let w = row-within (opened _ (c .before .before .before .before .before .before .before .before .before .before .args .matrix .now) _ _ (rw (c .before .enum-told .given .1) at (c .before .before .before .judge-front .ensures))) in
     omega arith
 
 serve-requires : tie.Need-serve-requires
@@ -50,14 +50,14 @@ same-length-2 c = search needs
 
 returns : tie.Need-returns
 returns c =
-    let s = c .before .before .before .before .before .before .before .before .before .before .before .before .before .before .before .args in
+    let s = c .before .before .before .before .before .before .before .before .before .before .before .before .before .before .before .before .before .args in
     let o = opened _ (s .matrix .now) _ _ (rw (c .before .before .before .before .before .before .before .before .enum-told .given .1) at (c .before .before .before .before .before .before .before .before .before .before .judge-front .ensures)) in
-    rw add-sub-cancel-left (outcome-served (s .logins) (s .classes .now) (s .clients .now) (s .matrix .now) (requestOf (s .asked)) (logOf (s .log .now) (s .tail)) _ o (rw add-sub-cancel-left at (c .before .before .before .before .serve .ensures)))
+    rw add-sub-cancel-left (outcome-served (s .logins) (s .classes .now) (s .clients .now) (s .by-pairs) (s .firsts .now) (s .seconds .now) (s .matrix .now) (requestOf (s .asked)) (logOf (s .log .now) (s .tail)) _ o (rw add-sub-cancel-left at (c .before .before .before .before .serve .ensures)))
 
 returns-2 : tie.Need-returns-2
 returns-2 c =
-    let s = c .before .before .before .before .before .before .args in
-    outcome-refused (registerOf (s .logins) (s .classes .now) (s .clients .now)) (s .matrix .now) (requestOf (s .asked)) (logOf (s .log .now) (s .tail)) _ (not-granted (c .before .judge-front .result) (c .match .keys2)) (c .before .judge-front .ensures)
+    let s = c .before .before .before .before .before .before .before .before .args in
+    outcome-refused (registerBy (s .logins) (s .classes .now) (s .clients .now) (s .by-pairs) (s .firsts .now) (s .seconds .now)) (s .matrix .now) (requestOf (s .asked)) (logOf (s .log .now) (s .tail)) _ (not-granted (c .before .judge-front .result) (c .match .keys2)) (c .before .judge-front .ensures)
 
 pub request-spec : {M : Type 1} → statement M
 request-spec =

@@ -23,9 +23,12 @@ enum-known-verdict-2 c = search needs
 enum-told-2 : tie.Need-enum-told-2
 enum-told-2 c = search needs
 
+enum-told-3 : tie.Need-enum-told-3
+enum-told-3 c = search needs
+
 known-requires : tie.Need-known-requires
 known-requires c κs =
-    let g = registered-range _ (rw (c .enum-told2 .given .1) at (c .before .before .check .ensures)) in
+    let g = registered-range _ (rw (c .enum-told3 .given .1) at (c .before .before .check .ensures)) in
     (g .logins-few, g .folders-few)
 
 returns : tie.Need-returns
@@ -42,7 +45,11 @@ returns-3 c =
 
 returns-4 : tie.Need-returns-4
 returns-4 c =
-    c .known .ensures ∙ register-open _ _ _ (rw (c .before .enum-told2 .given .1) at (c .before .before .before .check .ensures))
+    register-refused _ _ _ (answer 11 []) (λ z. omega arith) (rw (c .enum-told2 .given .1) at (c .before .before .check .ensures))
+
+returns-5 : tie.Need-returns-5
+returns-5 c =
+    c .known .ensures ∙ register-open _ _ _ (rw (c .before .enum-told3 .given .1) at (c .before .before .before .check .ensures))
 
 pub judge-front-spec : {M : Type 1} → statement M
 judge-front-spec =
@@ -53,8 +60,10 @@ judge-front-spec =
     enum-known-verdict
     enum-known-verdict-2
     enum-told-2
+    enum-told-3
     known-requires
     returns
     returns-2
     returns-3
-    returns-4)
+    returns-4
+    returns-5)
