@@ -1,10 +1,26 @@
-// The search for a rival by pairs (document 02, C-12).
+// The search for a rival by pairs, on a row alone (document 02, C-12), quickest where the client asked for has few opponents. Lists of any lengths
+// may be given; whether they fit is asked once, before any walk.
+mod groups; // the folders of listed clients, sought by four clients at a time
+mod listing; // the opponents, listed
+
+use crate::groups::first_among;
+use crate::listing::any_named;
+use crate::listing::list_opponents;
 use ids::ClientNo;
 ghost use mathlib.Core.Path.{_≡_};
 ghost use Rattle.register.specs.Lent.{lentClients};
+ghost use Rattle.row_marks.specs.Marks.{fitted};
 ghost use Rattle.row_marks.specs.Opposed.{firstOpposer};
 
+// Whether the clients are of the row's length, and the pairs fit.
+fn fits(row: &[u8], clients: &[u16], firsts: &[u16], seconds: &[u16]) -> bool
+    ensures { λ r. ⌜ r ≡ fitted (lentClients clients firsts seconds) (now (row .entry)) ⌝ }
+{
+    (clients.len() == row.len()) & ((firsts.len() == seconds.len()) & (firsts.len() <= 256))
+}
+
 // The first readable folder of a client in conflict by pairs with `client`, or the row's length; that too where the lists do not fit.
+// Mostly no pair names the client, or few do; with many opponents it is quicker to look up each folder's client than to compare it with each of them.
 pub fn first_opposer(
     row: &[u8],
     clients: &[u16],
@@ -14,5 +30,16 @@ pub fn first_opposer(
 ) -> usize
     ensures { λ r. ⌜ r ≡ firstOpposer (lentClients clients firsts seconds) (now (row .entry)) (client .0) ⌝ }
 {
-    row_marks::first_marked(row, clients, firsts, seconds, client)
+    if !fits(row, clients, firsts, seconds) {
+        return row.len();
+    }
+    if !any_named(firsts, seconds, client) {
+        return row.len();
+    }
+    let mut list = [0u16; 32];
+    let n = list_opponents(firsts, seconds, client, &mut list);
+    if 32 < n {
+        return row_marks::first_marked(row, clients, firsts, seconds, client);
+    }
+    first_among(row, clients, &list, n)
 }

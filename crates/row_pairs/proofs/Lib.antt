@@ -1,0 +1,4 @@
+pub mod Firsts
+pub mod Fours
+pub mod Opponents
+pub mod Opposers

@@ -1,0 +1,88 @@
+-- A client is in conflict by pairs with another where it is among the other's opponents.
+use Prim.Native.Nat.{ℕ, zero, suc, _+_, _≤_, _<_}
+use mathlib.Core.Path.{_≡_, refl, ap, sym, _∙_}
+use mathlib.Core.Bool.{Bool, true, false, cond, _&&_, _||_, or-false, or-self, and-true, and-false}
+use mathlib.Core.List.{List, [], _∷_, map, map-append}
+use mathlib.Core.Logic.{⊎-elim}
+use native.Mathlib.Nat.{not-suc-le-zero}
+use native.Mathlib.Numerals.{add-one}
+use native.Mathlib.Omega.{arith}
+use native.Mathlib.Decide.{ℕ-discrete}
+use lib.Dec.{eqb}
+use lib.ListN.{length, take, set, length-append, length-map}
+use lib.Seq.{take-suc-set, length-take-le}
+use borrow.Author.Tests.{eqb-true, ne-eqb}
+use Rattle.vocabulary.specs.Those.{those, some, member}
+use Rattle.vocabulary.proofs.Those.{those-agree, those-skip, those-take, some-those-suc, member-append, some-none, below-suc}
+use Rattle.register.specs.Register.{Register, pairs, firstAt, secondAt}
+use Rattle.policy.specs.Conflict.{pairNames, paired}
+use Rattle.row_pairs.specs.Opponents.{names, otherOf, opponents}
+
+eqb-turn : (k l : ℕ) → eqb k l ≡ eqb l k
+eqb-turn k l = elim (ℕ-discrete k l) [ yes e ↦ rw e | no d ↦ ne-eqb k l d ∙ sym (ne-eqb l k (λ e. d (sym e))) ]
+
+-- Of a pair that names c, the other client is the one that it names beside c; one that does not names nobody beside it.
+pair-other : (a b x c : ℕ) → ((eqb a x && eqb b c) || (eqb a c && eqb b x)) ≡ ((eqb a c || eqb b c) && eqb x (cond (eqb a c) b a))
+pair-other a b x c = at (eqb a c) (eqb b c) refl refl
+  where
+    at :
+        (s t : Bool) → eqb a c ≡ s → eqb b c ≡ t →
+        ((eqb a x && eqb b c) || (eqb a c && eqb b x)) ≡ ((eqb a c || eqb b c) && eqb x (cond (eqb a c) b a))
+    at true true e f = rw (eqb-turn x, e, f, and-true, eqb-true a c e, eqb-true b c f, or-self)
+    at true false e f = rw (eqb-turn x, e, f, and-false)
+    at false true e f = rw (eqb-turn x, e, f, and-true, or-false)
+    at false false e f = rw (e, f, and-false)
+
+-- What a search found, each find with what it stands for: the list names x where a find stands for x.
+member-map : (g : ℕ → ℕ) (q : ℕ → Bool) (x n : ℕ) → member x (map g (those q n)) ≡ some (those (λ i. q i && eqb x (g i)) n)
+unfolding those member
+member-map g q x zero = refl
+member-map g q x (suc n) =
+    rw (map-append g (those q n), member-append, member-map g q x n)
+    (ap (λ b. some (those (λ i. q i && eqb x (g i)) n) || b) (at (q n)) ∙ sym (rw add-one at (some-those-suc (λ i. q i && eqb x (g i)) n)))
+  where
+    at : (b : Bool) → member x (map g (cond b (n ∷ []) [])) ≡ (b && eqb x (g n))
+    at true = or-false (eqb x (g n))
+    at false = refl
+
+pub opponents-paired : (r : Register) (x c : ℕ) → paired r x c ≡ member x (opponents (r .firsts) (r .seconds) c (pairs r))
+unfolding paired opponents
+opponents-paired r x c =
+    ap some (those-agree (pairNames r x c) _ (pairs r) (λ i h. pair-other (firstAt r i) (secondAt r i) x c))
+    ∙ sym (member-map (otherOf (r .firsts) (r .seconds) c) (names (r .firsts) (r .seconds) c) x (pairs r))
+
+-- Where no pair names the client, it has no opponents.
+pub opponents-none : (firsts seconds : List ℕ) (c n : ℕ) → some (those (names firsts seconds c) n) ≡ false → opponents firsts seconds c n ≡ []
+unfolding opponents
+opponents-none firsts seconds c n e = rw (some-none (those (names firsts seconds c) n) e)
+
+-- A search that passes a find has listed more by then.
+those-longer : (p : ℕ → Bool) (i n : ℕ) → i < n → p i ≡ true → length (those p i) < length (those p n)
+unfolding those
+those-longer p i zero h e = absurd (not-suc-le-zero h)
+those-longer p i (suc n) h e =
+    rw length-append (⊎-elim (λ b. omega (arith, those-longer p i n b e)) (λ b. rw (← b, e) (omega arith)) (below-suc h))
+
+-- A walk over the pairs that lists the opponents as it goes.
+module _ (firsts seconds : List ℕ) (c i : ℕ) where
+  -- A pair that does not name the client is passed.
+  pub opponents-skip : names firsts seconds c i ≡ false → opponents firsts seconds c (i + 1) ≡ opponents firsts seconds c i
+  unfolding opponents
+  opponents-skip e = rw (those-skip (names firsts seconds c) i e)
+
+  -- Of one that does, the other client is stored past the list.
+  pub opponents-store :
+      (list : List ℕ) (n : ℕ) → n < length list → take n list ≡ opponents firsts seconds c i → names firsts seconds c i ≡ true →
+      take (n + 1) (set list n (otherOf firsts seconds c i)) ≡ opponents firsts seconds c (i + 1)
+  unfolding opponents
+  opponents-store list n h t e =
+      rw (those-take (names firsts seconds c) i e, map-append (otherOf firsts seconds c) (those (names firsts seconds c) i))
+      (rw (add-one, take-suc-set list n (otherOf firsts seconds c i) h, t))
+
+  -- If a list of k has no room for it, there are more than k.
+  pub opponents-past :
+      (list : List ℕ) (k n : ℕ) → k ≤ length list → take k list ≡ opponents firsts seconds c i → i < n → names firsts seconds c i ≡ true →
+      k < length (opponents firsts seconds c n)
+  unfolding opponents
+  opponents-past list k n fit t h e =
+      rw (← (length-take-le k list fit), t) (simp length-map (those-longer (names firsts seconds c) i n h e))

@@ -1,0 +1,22 @@
+-- `find_of` meets its contract: where there is no such folder, the row's length stands for the first.
+use mathlib.Core.Path.{sym, _∙_}
+use borrow.Author.Needs.{needs}
+use Rattle.vocabulary.proofs.Those.{first-absent}
+use Rattle.row_pairs.proofs.groups.find_of.Statement.{statement}
+use Rattle.row_pairs.proofs.groups.find_of.Tie as tie
+
+any-of-requires : tie.Need-any-of-requires
+any-of-requires c κs = search needs
+
+first-of-requires : tie.Need-first-of-requires
+first-of-requires c κs = search needs
+
+returns : tie.Need-returns
+returns c = search needs
+
+returns-2 : tie.Need-returns-2
+returns-2 c =
+    first-absent _ _ _ (sym (c .before .any-of .ensures) ∙ c .if1 .left)
+
+pub find-of-spec : {M : Type 1} → statement M
+find-of-spec = tie.close (tie.spec any-of-requires first-of-requires returns returns-2)

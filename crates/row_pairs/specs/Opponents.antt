@@ -1,0 +1,26 @@
+-- Internal: a client's opponents by pairs, listed. No rule of document 02 stands here.
+use Prim.Native.Nat.{ℕ, _≤_, _<_}
+use mathlib.Core.Path.{_≡_}
+use mathlib.Core.Bool.{Bool, cond, _||_}
+use mathlib.Core.List.{List, map}
+use lib.ListN.{length, getD, take}
+use lib.Dec.{eqb}
+use Rattle.vocabulary.specs.Those.{those}
+
+-- The pair at a place names client c.
+abbrev pub names : List ℕ → List ℕ → ℕ → ℕ → Bool
+names firsts seconds c i = eqb (getD firsts i 0) c || eqb (getD seconds i 0) c
+
+-- The other client of a pair that names c.
+abbrev pub otherOf : List ℕ → List ℕ → ℕ → ℕ → ℕ
+otherOf firsts seconds c i = cond (eqb (getD firsts i 0) c) (getD seconds i 0) (getD firsts i 0)
+
+-- The other clients of the first n pairs, as far as these name c.
+unfoldable pub opponents : List ℕ → List ℕ → ℕ → ℕ → List ℕ
+opponents firsts seconds c n = map (otherOf firsts seconds c) (those (names firsts seconds c) n)
+
+-- A list with room for 32 begins with them all, and n says how many they are; or n is above 32, and so is their number.
+pub record Gathered (all list : List ℕ) (n : ℕ) : Type 0 where
+  pub room : length list ≡ 32
+  pub held : n ≤ 32 → take n list ≡ all
+  pub more : 32 < n → 32 < length all
