@@ -28,7 +28,7 @@ fn ending(text: &[u8], place: usize) -> Text
     desk_print::bad_line(line_numbers::line_number(text, place))
 }
 
-// The line at a place, after the opening. A request is asked of the monitor and its answer printed; anything else ends the run, with
+// The line at a place, after the opening. A request is asked of the monitor, by classes, and its answer printed; anything else ends the run, with
 // `line n 40` unless the input ends there.
 pub fn step(
     text: &[u8],
@@ -44,7 +44,18 @@ pub fn step(
 {
     match desk_lines::read_line(text, place) {
         Line::Request { asked, next } => {
-            let reply = monitor::request(logins, classes, clients, matrix, asked, log, tail);
+            let reply = monitor::request(
+                logins,
+                classes,
+                clients,
+                false,
+                &[],
+                &[],
+                matrix,
+                asked,
+                log,
+                tail,
+            );
             let given = reply.response;
             let after = reply.tail;
             Progress {

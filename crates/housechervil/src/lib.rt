@@ -6,12 +6,14 @@ use ids::Request;
 use log_writer::Tail;
 use names::Stretch;
 ghost use mathlib.Core.Path.{_≡_};
+ghost use mathlib.Core.Bool.{not};
+ghost use lib.Dec.{eqb};
 ghost use Rattle.audit_log.specs.Reader.{checked, stepAt};
 ghost use Rattle.names.specs.Name.{nameShown};
 ghost use Rattle.packing.specs.CopyOutcome.{packs};
 ghost use Rattle.policy.specs.Outcome.{outcome};
 ghost use Rattle.policy.specs.Session.{request};
-ghost use Rattle.register.specs.Lent.{lent};
+ghost use Rattle.register.specs.Lent.{lentBy};
 ghost use Rattle.register.specs.Register.{registerAnswer};
 ghost use Rattle.serial.specs.Serial.{compared, following};
 ghost use Rattle.unpacking.specs.Unpacks.{unpacks};
@@ -69,24 +71,37 @@ pub struct HcNumber {
     pub place: usize,
 }
 
-// The register check.
+// The register check. The mode is 0 for classes and anything else for pairs.
 #[no_mangle]
 pub extern "C" fn hc_register_check(
     logins: usize,
     classes: &[u16],
     clients: &[u16],
+    mode: u8,
+    firsts: &[u16],
+    seconds: &[u16],
 ) -> HcRegisterAnswer
-    ensures { λ r. ⌜ r ≡ registerRecord (registerAnswer (lent logins classes clients)) ⌝ }
+    ensures { λ r. ⌜ r ≡ registerRecord (registerAnswer (lentBy logins classes clients (not (eqb mode 0)) firsts seconds)) ⌝ }
 {
-    told::verdict(register_check::check(logins, classes, clients))
+    told::verdict(register_check::check(
+        logins,
+        classes,
+        clients,
+        mode != 0,
+        firsts,
+        seconds,
+    ))
 }
 
-// A request. Its login and folder get their own types here.
+// A request, with the mode as above. Its login and folder get their own types here.
 #[no_mangle]
 pub extern "C" fn hc_request(
     logins: usize,
     classes: &[u16],
     clients: &[u16],
+    mode: u8,
+    firsts: &[u16],
+    seconds: &[u16],
     matrix: &mut [u8],
     login: u16,
     folder: u16,
@@ -95,7 +110,7 @@ pub extern "C" fn hc_request(
     end: usize,
     serial: u16,
 ) -> HcReply
-    ensures { λ r. ⌜ servedBy r (now (matrix .exit)) (now (log .exit)) ≡ served (outcome (lent logins classes clients) (now (matrix .entry)) (request kind login folder) (logAt (now (log .entry)) end serial)) ⌝ }
+    ensures { λ r. ⌜ servedBy r (now (matrix .exit)) (now (log .exit)) ≡ served (outcome (lentBy logins classes clients (not (eqb mode 0)) firsts seconds) (now (matrix .entry)) (request kind login folder) (logAt (now (log .entry)) end serial)) ⌝ }
 {
     let asked = Request {
         login: LoginNo(login),
@@ -106,7 +121,18 @@ pub extern "C" fn hc_request(
         end: end,
         serial: serial,
     };
-    told::reply(monitor::request(logins, classes, clients, matrix, asked, log, tail))
+    told::reply(monitor::request(
+        logins,
+        classes,
+        clients,
+        mode != 0,
+        firsts,
+        seconds,
+        matrix,
+        asked,
+        log,
+        tail,
+    ))
 }
 
 // The serial after this one.

@@ -47,6 +47,7 @@ pub(crate) fn verdict(v: Verdict) -> HcRegisterAnswer
         Verdict::OutOfRange => folders(1, 0, 0),
         Verdict::LoneZero(f) => folders(2, f.0, 0),
         Verdict::TwoClasses(f, g) => folders(3, f.0, g.0),
+        Verdict::BadPairs => folders(11, 0, 0),
     }
 }
 
