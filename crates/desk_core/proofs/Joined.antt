@@ -130,27 +130,27 @@ module _ (text : List ℕ)
       let few = both (leb 1 (r .logins) && leb (r .logins) 128 && leb 1 (folders r)) (leb (folders r) 512) (same .0) in
       (leb-true (folders r) 512 (few .1), sym (eqb-true (folders r) (length (r .clients)) (same .1)))
 
-  register-again : (r : Register) → (folders r ≤ 512) × (length (r .clients) ≡ folders r)
-      → registerOf (r .logins) (take (folders r) (sets (replicate 512 0) 0 (r .classes))) (take (folders r) (sets (replicate 512 0) 0 (r .clients))) ≡ r
-  register-again r (few, same) =
+  register-again : (p : ℕ) (cs ds : List ℕ) → (length cs ≤ 512) × (length ds ≡ length cs)
+      → registerOf p (take (length cs) (sets (replicate 512 0) 0 cs)) (take (length cs) (sets (replicate 512 0) 0 ds)) ≡ registerOf p cs ds
+  register-again p cs ds (few, same) =
       let whole = length-replicate {A = ℕ} 512 0 in
-      rw (taken (replicate 512 0) (r .classes) (rw whole few), ← same, taken (replicate 512 0) (r .clients) (rw (whole, same) few))
+      rw (taken (replicate 512 0) cs (rw whole few), ← same, taken (replicate 512 0) ds (rw (whole, same) few))
 
-  checked-whole : (b : Bool) (r : Register) (place : ℕ) → eqb (registerAnswer r .number) 0 ≡ b → length (openedWith r place .text) ≤ 4096
-      → runOf text (openedWith r place) ≡ checkedThen r (served r text place)
+  checked-whole : (b : Bool) (p : ℕ) (cs ds : List ℕ) (place : ℕ) → eqb (registerAnswer (registerOf p cs ds) .number) 0 ≡ b →
+      length (openedWith (registerOf p cs ds) place .text) ≤ 4096 →
+      runOf text (openedWith (registerOf p cs ds) place) ≡ checkedThen (registerOf p cs ds) (served (registerOf p cs ds) text place)
   unfolding openedWith checkedThen served askedAt
-  checked-whole true r place e h =
-      rw (e, register-again r (accepted-sizes r e), shown-text [] (omega arith))
-      (steps-plain (suc (length text)) r place (replicate (r .logins * folders r) 0) newLog (omega arith)
-      ∙ steps-served r (length text) place (replicate (r .logins * folders r) 0) newLog (omega arith))
-  checked-whole false r place e h = rw e (closed-whole text (badRegister (registerAnswer r)) (rw e at h))
+  checked-whole true p cs ds place e h =
+      rw (e, register-again p cs ds (accepted-sizes (registerOf p cs ds) e), shown-text [] (omega arith))
+      (steps-plain (suc (length text)) (registerOf p cs ds) place (replicate (p * length cs) 0) newLog (omega arith)
+      ∙ steps-served (registerOf p cs ds) (length text) place (replicate (p * length cs) 0) newLog (omega arith))
+  checked-whole false p cs ds place e h = rw e (closed-whole text (badRegister (registerAnswer (registerOf p cs ds))) (rw e at h))
 
   filed-whole : (b : Bool) (p : ℕ) (f : Filed) → (isRequest (lineAt text (f .place)) || leb (length text) (f .place)) ≡ b
       → length (openedOn p text f .text) ≤ 4096 → runOf text (openedOn p text f) ≡ filedThen p text f
   unfolding openedOn filedThen
   filed-whole true p f e h =
-      let r = registerFiled p f in
-      rw e (checked-whole (eqb (registerAnswer r .number) 0) r (f .place) refl (rw e at h))
+      rw e (checked-whole (eqb (registerAnswer (registerFiled p f) .number) 0) p (f .classes) (f .clients) (f .place) refl (rw e at h))
   filed-whole false p f e h = rw e (closed-whole text (badLine (lineNumber text (f .place))) (rw e at h))
 
   first-whole : (line : Line) → length (firstOn line text .text) ≤ 4096 → runOf text (firstOn line text) ≡ firstThen line text

@@ -17,6 +17,12 @@ read-line-requires c κs = search needs
 enum-known-asked : tie.Need-enum-known-asked
 enum-known-asked c = search needs
 
+slice-aggregate-request : tie.Need-slice-aggregate-request
+slice-aggregate-request c = search needs
+
+slice-aggregate-request-2 : tie.Need-slice-aggregate-request-2
+slice-aggregate-request-2 c = search needs
+
 request-requires : tie.Need-request-requires
 request-requires c κs = search needs
 
@@ -34,8 +40,8 @@ same-length-2 c = search needs
 
 returns : tie.Need-returns
 returns c =
-    let a = c .before .before .before .before .before .before .before .before .before .before .before .before .before .before .before .before .before .before .before .args in
-    stepped-request (a .text .now) (registerOf (a .logins) (a .classes .now) (a .clients .now)) (a .place) (a .matrix .now) (logOf (a .log .now) (a .tail)) _ _ _ _ (sym (c .before .before .before .before .before .before .before .before .before .before .before .before .before .read-line .ensures) ∙ ap lineOf (c .before .before .before .before .before .before .before .before .before .before .before .asked .given .1)) (omega (arith, c .before .before .before .before .before .before .before .before .before .before .before .before .before .before .before .before .before .before .before .good .1 .1 .1 .1 .1 .1 .1 .0 .1 .1 .1 .0 .1)) (c .before .before .before .before .before .before .before .request .result) _ _ _ (c .before .before .before .before .before .before .before .request .ensures) (c .answer-line .ensures)
+    let a = c .before .before .before .before .before .before .before .before .before .before .before .before .before .before .before .before .before .before .before .before .before .args in
+    stepped-request (a .text .now) (registerOf (a .logins) (a .classes .now) (a .clients .now)) (a .place) (a .matrix .now) (logOf (a .log .now) (a .tail)) _ _ _ _ (sym (c .before .before .before .before .before .before .before .before .before .before .before .before .before .before .before .read-line .ensures) ∙ ap lineOf (c .before .before .before .before .before .before .before .before .before .before .before .before .before .asked .given .1)) (omega (arith, c .before .before .before .before .before .before .before .before .before .before .before .before .before .before .before .before .before .before .before .before .before .good .1 .1 .1 .1 .1 .1 .1 .0 .1 .1 .1 .0 .1)) (c .before .before .before .before .before .before .before .request .result) _ _ _ (c .before .before .before .before .before .before .before .request .ensures) (c .answer-line .ensures)
 
 returns-2 : tie.Need-returns-2
 returns-2 c =
@@ -48,6 +54,8 @@ step-spec =
     (tie.spec
     read-line-requires
     enum-known-asked
+    slice-aggregate-request
+    slice-aggregate-request-2
     request-requires
     answer-line-requires
     ending-requires
