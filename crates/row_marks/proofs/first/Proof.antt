@@ -39,7 +39,9 @@ read-and-marked-requires c κs = search needs
 
 returns : tie.Need-returns Inv-loop μ-loop
 returns c =
-    sym (first-found _ _ _ _ (c .before .before .before .before .before .before .loop .inv .1) (rw (c .before .read-and-marked .ensures, c .before .before .bits-from .ensures) at (c .if1 .taken)) (c .before .before .before .before .before .loop-test .taken))
+    let turn = c .before .before .before .before .before in
+    let found = rw (c .before .read-and-marked .ensures, c .before .before .bits-from .ensures) at (c .if1 .taken) in
+    sym (first-found _ _ _ _ (turn .before .loop .inv .1) found (turn .loop-test .taken))
 
 add-f : tie.Need-add-f Inv-loop μ-loop
 add-f c = search needs
@@ -49,7 +51,8 @@ loop-less c = search needs
 
 loop-again : tie.Need-loop-again Inv-loop μ-loop
 loop-again c =
-    (omega arith, those-none _ _ (c .before .before .before .before .before .before .loop .inv .1) (rw (c .before .read-and-marked .ensures, c .before .before .bits-from .ensures) at (c .if1 .left)))
+    let passed = rw (c .before .read-and-marked .ensures, c .before .before .bits-from .ensures) at (c .if1 .left) in
+    (omega arith, those-none _ _ (c .before .before .before .before .before .before .loop .inv .1) passed)
 
 returns-2 : tie.Need-returns-2 Inv-loop μ-loop
 returns-2 c =

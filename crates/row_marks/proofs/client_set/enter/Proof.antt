@@ -53,7 +53,9 @@ element-write-bits c =
 
 returns : tie.Need-returns
 returns c =
-    rw (c .before .before .wide .ensures, c .before .before .before .place-for .ensures, c .before .before .before .before .before .block-of .ensures, c .bit-of .ensures) (grown-enter _ _ _ _ (c .before .before .before .before .before .before .args .wanted) (c .before .before .before .before .before .before .pre .1) (c .before .before .before .before .before .before .pre .0) (omega arith))
+    let start = c .before .before .before .before .before .before in
+    rw (c .before .before .wide .ensures, c .before .before .before .place-for .ensures, c .before .before .before .before .before .block-of .ensures, c .bit-of .ensures)
+    (grown-enter _ _ _ _ (start .args .wanted) (start .pre .1) (start .pre .0) (omega arith))
 
 pub enter-spec : {M : Type 1} → statement M
 enter-spec =

@@ -47,7 +47,8 @@ loop-less c = search needs
 
 loop-again : tie.Need-loop-again Inv-loop μ-loop
 loop-again c =
-    (omega arith, marked-more _ _ _ _ _ _ _ _ (c .before .before .before .before .before .before .before .before .loop .inv .1) (rw (c .before .names .ensures, c .before .before .other .ensures) at (c .enter .ensures)))
+    let grown = rw (c .before .names .ensures, c .before .before .other .ensures) at (c .enter .ensures) in
+    (omega arith, marked-more _ _ _ _ _ _ _ _ (c .before .before .before .before .before .before .before .before .loop .inv .1) grown)
 
 returns : tie.Need-returns Inv-loop μ-loop
 returns c =
