@@ -1,7 +1,7 @@
 -- Internal: the clients in conflict with the one asked for, marked in a set. No rule of document 02 stands here.
 use Prim.Native.Nat.{ℕ, _+_, _/_, _%_, _^_, _≤_, _<_}
 use mathlib.Core.Path.{_≡_}
-use mathlib.Core.Bool.{Bool, true, _&&_, _||_}
+use mathlib.Core.Bool.{Bool, true, cond, _&&_, _||_}
 use mathlib.Core.List.{List, []}
 use lib.ListN.{length, getD}
 use lib.Dec.{eqb}
@@ -15,12 +15,11 @@ use Rattle.row_marks.specs.Opposed.{pairsFit}
 unfoldable pub hasBit : ℕ → ℕ → Bool
 hasBit word k = eqb (word / 2 ^ k % 2) 1
 
--- Client x is in the set.
+-- Client x is in the set: of the words, `bits`, `blocks` has the place of its block's.
 abbrev pub marked : List ℕ → List ℕ → ℕ → Bool
 marked blocks bits x = hasBit (getD bits (getD blocks (x / 64) 0) 0) (x % 64)
 
--- The form of a set to which at most n clients were added: a word for each block, other than 0 if it has clients in the set, and words without
--- a block are 0.
+-- The form of a set where blocks have words at 1 to n at most: no two blocks have the same word, and words that no block has, the one at 0 too, are 0.
 pub record Sparse (blocks bits : List ℕ) (n : ℕ) : Type 0 where
   pub places : length blocks ≡ 1024
   pub words : length bits ≡ 257
@@ -29,14 +28,21 @@ pub record Sparse (blocks bits : List ℕ) (n : ℕ) : Type 0 where
   pub bare : (k : ℕ) → n < k → getD bits k 0 ≡ 0
   pub none : getD bits 0 0 ≡ 0
 
--- The clients that pass a test, at most one, were added to such a set.
+-- The place of a block's word: the one that it has, or a fresh one.
+abbrev pub placeFor : ℕ → ℕ → ℕ
+placeFor old fresh = cond (eqb old 0) fresh old
+
+-- The clients that pass a test were added to such a set, with at most one word more.
 pub record Grown (blocks bits blocks' bits' : List ℕ) (p : ℕ → Bool) (n : ℕ) : Type 0 where
   pub sparse : Sparse blocks' bits' (n + 1)
   pub adds : (x : ℕ) → marked blocks' bits' x ≡ (marked blocks bits x || p x)
 
--- The pair of a and b names c and x.
-abbrev pub between : ℕ → ℕ → ℕ → ℕ → Bool
-between a b c x = (eqb a x && eqb b c) || (eqb a c && eqb b x)
+-- The pair of a and b names c; and whom it names beside c then.
+abbrev pub namesClient : ℕ → ℕ → ℕ → Bool
+namesClient a b c = eqb a c || eqb b c
+
+abbrev pub otherClient : ℕ → ℕ → ℕ → ℕ
+otherClient a b c = cond (eqb a c) b a
 
 -- The clients in conflict with c by the first n pairs are marked.
 pub record Marked (firsts seconds : List ℕ) (c : ℕ) (blocks bits : List ℕ) (n : ℕ) : Type 0 where
@@ -48,5 +54,9 @@ abbrev pub fitted : Register → List ℕ → Bool
 fitted r row = eqb (length (r .clients)) (length row) && pairsFit r
 
 -- Folder f may be read, and its client is marked.
-abbrev pub readable : List ℕ → List ℕ → List ℕ → List ℕ → ℕ → Bool
-readable row clients blocks bits f = canRead (cell row f) && marked blocks bits (getD clients f 0)
+abbrev pub readMarked : List ℕ → List ℕ → List ℕ → List ℕ → ℕ → Bool
+readMarked row clients blocks bits f = canRead (cell row f) && marked blocks bits (getD clients f 0)
+
+-- The first such folder, or the row's length.
+abbrev pub firstRead : List ℕ → List ℕ → List ℕ → List ℕ → ℕ
+firstRead row clients blocks bits = getD (those (readMarked row clients blocks bits) (length row)) 0 (length row)

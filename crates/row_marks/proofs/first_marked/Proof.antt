@@ -48,7 +48,7 @@ first-requires c κs =
 returns-2 : tie.Need-returns-2
 returns-2 c =
     let past = c .before .before .before .before .before .before in
-    c .first .ensures ∙ first-fitted (asked past) _ _ _ _ (fit past) (c .before .before .before .mark-all .ensures)
+    rw (c .first .ensures) (first-fitted (asked past) _ _ _ _ (fit past) (c .before .before .before .mark-all .ensures))
 
 pub first-marked-spec : {M : Type 1} → statement M
 first-marked-spec = tie.close (tie.spec fits-requires returns mark-all-requires first-requires returns-2)
