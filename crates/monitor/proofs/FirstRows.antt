@@ -22,7 +22,7 @@ use Rattle.policy.proofs.Outcome.{logged-silent, outcome-unlogged}
 use Rattle.policy.proofs.Rows.{row-fits, length-rowOf, withRow-rowOf}
 use Rattle.cells.specs.Above.{aboves}
 use Rattle.row_labels.specs.Fitting.{listsFit, fitting}
-use Rattle.row_marks.specs.Opposed.{pairsFit}
+use Rattle.register_pairs.specs.Pair.{pairsFit}
 use Rattle.row.specs.Row.{fitChecks, rowAnswer}
 use Rattle.row_grant.specs.Granted.{rowGranted}
 use Rattle.row_labels.proofs.Fitting.{fits-row}

@@ -21,7 +21,8 @@ use Rattle.cell_rules.specs.declared.Sort.{Sort}
 use Rattle.cell_rules.specs.declared.Sort.the-variants.{Rival, Foreign, AtStake}
 use Rattle.row_labels.specs.Fitting.{listsFit, fitting, labelAt}
 use Rattle.row_labels.specs.Cut.{Alongside}
-use Rattle.row_marks.specs.Opposed.{pairsFit, opposers, firstOpposer}
+use Rattle.register_pairs.specs.Pair.{pairsFit}
+use Rattle.row_marks.specs.Opposed.{opposers, firstOpposer}
 use Rattle.row_labels.proofs.Fitting.{fits-are}
 use Rattle.row.specs.Row.{fitChecks, rowAnswer, ruled, lostOn}
 use Rattle.row.specs.Cut.{allOf, firstOf, firstRival}

@@ -14,7 +14,7 @@ use Rattle.policy.specs.Rules.{lost}
 use Rattle.policy.specs.Outcome.{wallAnswer}
 use Rattle.row_labels.specs.Fitting.{fitting}
 use Rattle.row_labels.proofs.Fitting.{lists-fitting, folder-in}
-use Rattle.row_marks.specs.Opposed.{pairsFit}
+use Rattle.register_pairs.specs.Pair.{pairsFit}
 use Rattle.row.specs.Row.{fitChecks, rowAnswer, ruled, lostOn}
 
 -- What a grant carries is dropped, not its number.

@@ -12,7 +12,7 @@ use Rattle.register.specs.Register.{Register}
 use Rattle.policy.specs.Rules.{lost}
 use Rattle.policy.specs.Outcome.{wallAnswer}
 use Rattle.row_labels.specs.Fitting.{listsFit, fitting}
-use Rattle.row_marks.specs.Opposed.{pairsFit}
+use Rattle.register_pairs.specs.Pair.{pairsFit}
 use Rattle.row.specs.declared.Ruling.{Ruling}
 use Rattle.row.specs.declared.Ruling.the-variants.{Unfit, BadPairs, UnknownFolder, Granted, Rival, Foreign, AtStake}
 

@@ -14,7 +14,7 @@ ghost use Rattle.register.specs.Register.{registerBy};
 ghost use Rattle.register.specs.Lent.{lentFolders, lentFoldersBy, lentPairs};
 ghost use Rattle.policy.specs.Outcome.{wallAnswer};
 ghost use Rattle.row_labels.specs.Cut.{Alongside};
-ghost use Rattle.row_marks.specs.Opposed.{pairsFit};
+ghost use Rattle.register_pairs.specs.Pair.{pairsFit};
 ghost use Rattle.row.specs.Cut.{firstRival};
 ghost use Rattle.row.specs.Row.{rowAnswer, rulingAnswer, ruled, lostOn};
 
@@ -98,7 +98,7 @@ fn judge_wall(
 fn pairs_unfit(by_pairs: bool, firsts: &[u16], seconds: &[u16]) -> bool
     ensures { λ r. ⌜ r ≡ («by_pairs» && not (pairsFit (lentPairs firsts seconds))) ⌝ }
 {
-    by_pairs & !((firsts.len() == seconds.len()) & (firsts.len() <= 256))
+    by_pairs & !register_pairs::pairs_fit(firsts, seconds)
 }
 
 // What a login whose row this is gets for a request of this folder and kind.

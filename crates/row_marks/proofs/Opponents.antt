@@ -11,8 +11,10 @@ use Rattle.vocabulary.proofs.Those.{those-agree, some-those-suc}
 use Rattle.vocabulary.proofs.Bools.{both}
 use Rattle.register.specs.Register.{Register, pairs, clientOf}
 use Rattle.policy.specs.Conflict.{paired}
-use Rattle.row_marks.specs.Marks.{Grown, Marked, namesClient, otherClient, fitted, readMarked, firstRead}
-use Rattle.row_marks.specs.Opposed.{pairsFit, opposed, opposers, firstOpposer}
+use Rattle.register_pairs.specs.Pair.{namesClient, otherClient}
+use Rattle.row_marks.specs.Marks.{Grown, Marked, fitted, readMarked, firstRead}
+use Rattle.register_pairs.specs.Pair.{pairsFit}
+use Rattle.row_marks.specs.Opposed.{opposed, opposers, firstOpposer}
 use Rattle.row_marks.proofs.Marks.{empty-sparse, empty-marked}
 
 -- Of a pair that names c, the other client is the one that it names beside c.

@@ -9,7 +9,7 @@ use Rattle.vocabulary.specs.Those.{those, some}
 use Rattle.register.specs.Register.{Register, registerBy}
 use Rattle.policy.specs.Conflict.{pairNames}
 use Rattle.policy.specs.Rules.{cell, canRead}
-use Rattle.row_marks.specs.Opposed.{pairsFit}
+use Rattle.register_pairs.specs.Pair.{pairsFit}
 
 -- A word's bit at a place.
 unfoldable pub hasBit : ℕ → ℕ → Bool
@@ -36,13 +36,6 @@ placeFor old fresh = cond (eqb old 0) fresh old
 pub record Grown (blocks bits blocks' bits' : List ℕ) (p : ℕ → Bool) (n : ℕ) : Type 0 where
   pub sparse : Sparse blocks' bits' (n + 1)
   pub adds : (x : ℕ) → marked blocks' bits' x ≡ (marked blocks bits x || p x)
-
--- The pair of a and b names c; and whom it names beside c then.
-abbrev pub namesClient : ℕ → ℕ → ℕ → Bool
-namesClient a b c = eqb a c || eqb b c
-
-abbrev pub otherClient : ℕ → ℕ → ℕ → ℕ
-otherClient a b c = cond (eqb a c) b a
 
 -- The clients in conflict with c by the first n pairs are marked.
 pub record Marked (firsts seconds : List ℕ) (c : ℕ) (blocks bits : List ℕ) (n : ℕ) : Type 0 where

@@ -4,15 +4,12 @@ use Prim.Native.Nat.{ℕ}
 use mathlib.Core.Bool.{Bool, cond, _&&_}
 use mathlib.Core.List.{List, []}
 use lib.ListN.{length, getD}
-use lib.Dec.{eqb, leb}
+use lib.Dec.{eqb}
 use Rattle.vocabulary.specs.Those.{those}
-use Rattle.register.specs.Register.{Register, clientOf, pairs}
+use Rattle.register.specs.Register.{Register, clientOf}
+use Rattle.register_pairs.specs.Pair.{pairsFit}
 use Rattle.policy.specs.Conflict.{paired}
 use Rattle.policy.specs.Rules.{cell, canRead}
-
--- The lists of pairs are of one length and have at most 256 pairs: refusal 11 as far as it concerns their sizes.
-unfoldable pub pairsFit : Register → Bool
-pairsFit r = eqb (pairs r) (length (r .seconds)) && leb (pairs r) 256
 
 -- Folder f may be read, and is of a client in conflict by pairs with client c.
 abbrev pub opposed : Register → List ℕ → ℕ → ℕ → Bool

@@ -17,10 +17,10 @@ ghost use Rattle.row_marks.specs.Marks.{Sparse, fitted, firstRead};
 ghost use Rattle.row_marks.specs.Opposed.{firstOpposer};
 
 // Whether the clients are of the row's length, and the pairs fit.
-fn fits(row: &[u8], clients: &[u16], firsts: &[u16], seconds: &[u16]) -> bool
+pub fn fits(row: &[u8], clients: &[u16], firsts: &[u16], seconds: &[u16]) -> bool
     ensures { λ r. ⌜ r ≡ fitted (lentClients clients firsts seconds) (now (row .entry)) ⌝ }
 {
-    (clients.len() == row.len()) & ((firsts.len() == seconds.len()) & (firsts.len() <= 256))
+    (clients.len() == row.len()) & register_pairs::pairs_fit(firsts, seconds)
 }
 
 // Whether a cell gives the read right and the lowest of the bits is set: one test, on the lowest bit of both.

@@ -1,28 +1,10 @@
 // The clients in conflict by pairs with one client, marked in one pass over the pairs.
 use crate::client_set::enter;
 use ids::ClientNo;
-use ids::same_client;
 ghost use Prim.Native.Nat.{_≤_};
 ghost use mathlib.Core.Path.{_≡_};
 ghost use lib.ListN.{length};
-ghost use Rattle.row_marks.specs.Marks.{Marked, namesClient, otherClient};
-
-// Whether a pair names the client, whichever way round it stands.
-fn names(first: ClientNo, second: ClientNo, client: ClientNo) -> bool
-    ensures { λ r. ⌜ r ≡ namesClient (first .0) (second .0) (client .0) ⌝ }
-{
-    same_client(first, client) | same_client(second, client)
-}
-
-// The other client of a pair that names this one.
-fn other(first: ClientNo, second: ClientNo, client: ClientNo) -> ClientNo
-    ensures { λ r. ⌜ r .0 ≡ otherClient (first .0) (second .0) (client .0) ⌝ }
-{
-    if same_client(first, client) {
-        return second;
-    }
-    first
-}
+ghost use Rattle.row_marks.specs.Marks.{Marked};
 
 // Marks the opponents of the client in all pairs. A pair adds one word at most, so 256 are enough.
 pub(crate) fn mark_all(
@@ -42,8 +24,8 @@ pub(crate) fn mark_all(
         enter(
             blocks,
             bits,
-            other(first, second, client),
-            names(first, second, client),
+            register_pairs::other(first, second, client),
+            register_pairs::names(first, second, client),
             i,
         );
         i += 1;

@@ -1,19 +1,19 @@
 -- Internal: a client's opponents by pairs, listed. No rule of document 02 stands here.
 use Prim.Native.Nat.{ℕ, _≤_, _<_}
 use mathlib.Core.Path.{_≡_}
-use mathlib.Core.Bool.{Bool, cond, _||_}
+use mathlib.Core.Bool.{Bool}
 use mathlib.Core.List.{List, map}
 use lib.ListN.{length, getD, take}
-use lib.Dec.{eqb}
 use Rattle.vocabulary.specs.Those.{those}
+use Rattle.register_pairs.specs.Pair.{namesClient, otherClient}
 
 -- The pair at a place names client c.
 abbrev pub names : List ℕ → List ℕ → ℕ → ℕ → Bool
-names firsts seconds c i = eqb (getD firsts i 0) c || eqb (getD seconds i 0) c
+names firsts seconds c i = namesClient (getD firsts i 0) (getD seconds i 0) c
 
 -- The other client of a pair that names c.
 abbrev pub otherOf : List ℕ → List ℕ → ℕ → ℕ → ℕ
-otherOf firsts seconds c i = cond (eqb (getD firsts i 0) c) (getD seconds i 0) (getD firsts i 0)
+otherOf firsts seconds c i = otherClient (getD firsts i 0) (getD seconds i 0) c
 
 -- The other clients of the first n pairs, as far as these name c.
 unfoldable pub opponents : List ℕ → List ℕ → ℕ → ℕ → List ℕ

@@ -9,15 +9,7 @@ use crate::listing::list_opponents;
 use ids::ClientNo;
 ghost use mathlib.Core.Path.{_≡_};
 ghost use Rattle.register.specs.Lent.{lentClients};
-ghost use Rattle.row_marks.specs.Marks.{fitted};
 ghost use Rattle.row_marks.specs.Opposed.{firstOpposer};
-
-// Whether the clients are of the row's length, and the pairs fit.
-fn fits(row: &[u8], clients: &[u16], firsts: &[u16], seconds: &[u16]) -> bool
-    ensures { λ r. ⌜ r ≡ fitted (lentClients clients firsts seconds) (now (row .entry)) ⌝ }
-{
-    (clients.len() == row.len()) & ((firsts.len() == seconds.len()) & (firsts.len() <= 256))
-}
 
 // The first readable folder of a client in conflict by pairs with `client`, or the row's length; that too where the lists do not fit.
 // Mostly no pair names the client, or few do; with many opponents it is quicker to look up each folder's client than to compare it with each of them.
@@ -30,7 +22,7 @@ pub fn first_opposer(
 ) -> usize
     ensures { λ r. ⌜ r ≡ firstOpposer (lentClients clients firsts seconds) (now (row .entry)) (client .0) ⌝ }
 {
-    if !fits(row, clients, firsts, seconds) {
+    if !row_marks::fits(row, clients, firsts, seconds) {
         return row.len();
     }
     if !any_named(firsts, seconds, client) {

@@ -1,29 +1,9 @@
 // The opponents of a client by pairs, listed.
 use ids::ClientNo;
-use ids::same_client;
 ghost use mathlib.Core.Path.{_≡_};
-ghost use mathlib.Core.Bool.{cond, _||_};
-ghost use lib.Dec.{eqb};
 ghost use lib.ListN.{length};
 ghost use Rattle.vocabulary.specs.Those.{those, some};
 ghost use Rattle.row_pairs.specs.Opponents.{names, opponents, Gathered};
-
-// Whether a pair names a client.
-fn names_client(first: ClientNo, second: ClientNo, client: ClientNo) -> bool
-    ensures { λ r. ⌜ r ≡ eqb (first .0) (client .0) || eqb (second .0) (client .0) ⌝ }
-{
-    same_client(first, client) | same_client(second, client)
-}
-
-// The other client of a pair that names one.
-fn other(first: ClientNo, second: ClientNo, client: ClientNo) -> ClientNo
-    ensures { λ r. ⌜ r .0 ≡ cond (eqb (first .0) (client .0)) (second .0) (first .0) ⌝ }
-{
-    if same_client(first, client) {
-        return second;
-    }
-    first
-}
 
 // Whether any pair names the client. Without a branch in the loop, so that it goes over several pairs at once.
 pub(crate) fn any_named(firsts: &[u16], seconds: &[u16], client: ClientNo) -> bool
@@ -35,7 +15,7 @@ pub(crate) fn any_named(firsts: &[u16], seconds: &[u16], client: ClientNo) -> bo
     while i < firsts.len() {
         let first = firsts[i];
         let second = seconds[i];
-        any = any | names_client(ClientNo(first), ClientNo(second), client);
+        any = any | register_pairs::names(ClientNo(first), ClientNo(second), client);
         i += 1;
     }
     any
@@ -56,11 +36,11 @@ pub(crate) fn list_opponents(
     while i < firsts.len() {
         let first = ClientNo(firsts[i]);
         let second = ClientNo(seconds[i]);
-        if names_client(first, second, client) {
+        if register_pairs::names(first, second, client) {
             if n == 32 {
                 return 33;
             }
-            list[n] = other(first, second, client).0;
+            list[n] = register_pairs::other(first, second, client).0;
             n += 1;
         }
         i += 1;

@@ -1,12 +1,13 @@
 -- `pairs_unfit` meets its contract, test by test.
-use mathlib.Core.Path.{refl}
-use Rattle.row_marks.specs.Opposed.{pairsFit}
+use borrow.Author.Needs.{needs}
 use Rattle.row.proofs.pairs_unfit.Statement.{statement}
 use Rattle.row.proofs.pairs_unfit.Tie as tie
 
+pairs-fit-requires : tie.Need-pairs-fit-requires
+pairs-fit-requires c κs = search needs
+
 returns : tie.Need-returns
-unfolding pairsFit
-returns c = refl
+returns c = rw (c .pairs-fit .ensures)
 
 pub pairs-unfit-spec : {M : Type 1} → statement M
-pairs-unfit-spec = tie.close (tie.spec returns)
+pairs-unfit-spec = tie.close (tie.spec pairs-fit-requires returns)

@@ -1,13 +1,15 @@
--- `fits` meets its contract: the three tests are those of the rule.
-use Rattle.row_marks.specs.Opposed.{pairsFit}
+-- `fits` meets its contract: the clients' length, then the pairs'.
 use borrow.Author.Needs.{needs}
+use Rattle.register_pairs.specs.Pair.{pairsFit}
 use Rattle.row_marks.proofs.fits.Statement.{statement}
 use Rattle.row_marks.proofs.fits.Tie as tie
 
+pairs-fit-requires : tie.Need-pairs-fit-requires
+pairs-fit-requires c κs = search needs
+
 returns : tie.Need-returns
 unfolding pairsFit
-returns c =
-    search needs
+returns c = rw (c .pairs-fit .ensures)
 
 pub fits-spec : {M : Type 1} → statement M
-fits-spec = tie.close (tie.spec returns)
+fits-spec = tie.close (tie.spec pairs-fit-requires returns)

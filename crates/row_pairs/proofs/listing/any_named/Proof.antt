@@ -34,8 +34,8 @@ mul-second c = search needs
 shared-slice-read-second : tie.Need-shared-slice-read-second Inv-loop μ-loop
 shared-slice-read-second c = search needs
 
-names-client-requires : tie.Need-names-client-requires Inv-loop μ-loop
-names-client-requires c κs = search needs
+names-requires : tie.Need-names-requires Inv-loop μ-loop
+names-requires c κs = search needs
 
 add-i : tie.Need-add-i Inv-loop μ-loop
 add-i c = search needs
@@ -45,7 +45,7 @@ loop-less c = search needs
 
 loop-again : tie.Need-loop-again Inv-loop μ-loop
 loop-again c =
-    (omega arith, rw (some-those-suc, c .names-client .ensures, c .before .before .before .before .loop .inv .1))
+    (omega arith, rw (some-those-suc, c .names .ensures, c .before .before .before .before .loop .inv .1))
 
 returns : tie.Need-returns Inv-loop μ-loop
 returns c =
@@ -62,7 +62,7 @@ any-named-spec =
     shared-slice-read-first
     mul-second
     shared-slice-read-second
-    names-client-requires
+    names-requires
     add-i
     loop-less
     loop-again

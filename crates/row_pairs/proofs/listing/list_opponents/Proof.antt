@@ -35,8 +35,8 @@ mul-t9-2 c = search needs
 shared-slice-read-t12-2 : tie.Need-shared-slice-read-t12-2 Inv-loop μ-loop
 shared-slice-read-t12-2 c = search needs
 
-names-client-requires : tie.Need-names-client-requires Inv-loop μ-loop
-names-client-requires c κs = search needs
+names-requires : tie.Need-names-requires Inv-loop μ-loop
+names-requires c κs = search needs
 
 returns : tie.Need-returns Inv-loop μ-loop
 returns c =
@@ -45,7 +45,7 @@ returns c =
     record {
       room = l .inv .2;
       held = λ h. absurd (omega arith);
-      more = λ h. omega (arith, c .if2 .taken, opponents-past _ _ _ _ _ _ _ fit (l .inv .3) (c .before .before .before .before .before .loop-test .taken) (sym (c .before .before .names-client .ensures) ∙ c .before .if1 .taken));
+      more = λ h. omega (arith, c .if2 .taken, opponents-past _ _ _ _ _ _ _ fit (l .inv .3) (c .before .before .before .before .before .loop-test .taken) (sym (c .before .before .names .ensures) ∙ c .before .if1 .taken));
     }
 
 other-requires : tie.Need-other-requires Inv-loop μ-loop
@@ -69,7 +69,7 @@ loop-less c = search needs
 loop-again : tie.Need-loop-again Inv-loop μ-loop
 loop-again c =
     let l = c .before .before .before .before .before .loop in
-    let told = c .before .names-client .ensures in
+    let told = c .before .names .ensures in
     ⊎-elim
     (λ w. let room : l .n < length (l .list) = omega arith in
     rw (w .3, w .4) (omega arith, omega arith, simp length-set (l .inv .2), rw (w .2 .ensures) (opponents-store _ _ _ _ _ _ room (l .inv .3) (sym told ∙ w .0 .taken))))
@@ -97,7 +97,7 @@ list-opponents-spec =
     shared-slice-read-t12
     mul-t9-2
     shared-slice-read-t12-2
-    names-client-requires
+    names-requires
     returns
     other-requires
     mul-list
