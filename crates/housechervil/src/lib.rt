@@ -83,14 +83,8 @@ pub extern "C" fn hc_register_check(
 ) -> HcRegisterAnswer
     ensures { λ r. ⌜ r ≡ registerRecord (registerAnswer (lentBy logins classes clients (not (eqb mode 0)) firsts seconds)) ⌝ }
 {
-    told::verdict(register_check::check(
-        logins,
-        classes,
-        clients,
-        mode != 0,
-        firsts,
-        seconds,
-    ))
+    let by_pairs = mode != 0;
+    told::verdict(register_check::check(logins, classes, clients, by_pairs, firsts, seconds))
 }
 
 // A request, with the mode as above. Its login and folder get their own types here.
