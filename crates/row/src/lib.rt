@@ -123,7 +123,16 @@ pub fn decide(
     if row.len() <= folder.0 as usize {
         return Ruling::UnknownFolder;
     }
-    judge_wall(row, classes, clients, by_pairs, firsts, seconds, folder, kind)
+    judge_wall(
+        row,
+        classes,
+        clients,
+        by_pairs,
+        firsts,
+        seconds,
+        folder,
+        kind,
+    )
 }
 
 // Whether any folder loses its write right on a grant.
