@@ -1,14 +1,14 @@
 -- What an accepted register gives: the two zeros stand together, one client has one class; in pair mode each pair names two clients.
-use Prim.Native.Nat.{ℕ, _<_, _≤_}
-use mathlib.Core.Path.{_≡_, refl, sym, ap, _∙_}
-use mathlib.Core.Bool.{Bool, true, false, not, _&&_, _||_}
-use mathlib.Core.List.{List, [], _∷_, _++_}
+use Prim.Native.Nat.{ℕ, _<_}
+use mathlib.Core.Path.{_≡_, refl, sym, ap}
+use mathlib.Core.Bool.{true, false, not, _||_}
+use mathlib.Core.List.{[]}
 use native.Mathlib.Omega.{arith}
 use native.Mathlib.Decide.{ℕ-discrete, decLt}
 use lib.ListN.{length}
-use lib.Dec.{eqb, leb, ltb}
-use borrow.Author.Tests.{eq-eqb, ne-eqb, eqb-true, eqb-false, not-false, leb-true}
-use Rattle.vocabulary.specs.Answer.{Answer, answer, judge}
+use lib.Dec.{eqb, ltb}
+use borrow.Author.Tests.{eq-eqb, ne-eqb, eqb-true, not-false}
+use Rattle.vocabulary.specs.Answer.{Answer, answer}
 use Rattle.vocabulary.specs.Those.{those, some}
 use Rattle.vocabulary.proofs.Those.{those-empty, some-none}
 use Rattle.vocabulary.proofs.Judge.{Passed, judge-silent, judge-passed}

@@ -7,8 +7,8 @@ use lib.Dec.{eqb}
 use borrow.Author.Tests.{eq-eqb, ne-eqb, eqb-true, eqb-false, not-true}
 use Rattle.vocabulary.specs.Those.{those, some, smallest}
 use Rattle.vocabulary.proofs.Those.{those-agree, smallest-holds}
-use Rattle.vocabulary.proofs.Bools.{both, either, neither, true-or-false, and-both}
-use Rattle.register.specs.Register.{Register, folders, classOf, clientOf, pairs, firstAt, secondAt, badPair, Accepted}
+use Rattle.vocabulary.proofs.Bools.{both, either, neither}
+use Rattle.register.specs.Register.{Register, folders, classOf, clientOf, pairs, firstAt, secondAt, Accepted}
 use Rattle.policy.specs.Conflict.{oneClass, pairNames, paired, inConflict}
 use Rattle.policy.specs.Wall.{Conflict, wallOf}
 use Rattle.policy.proofs.Wall.{Lawful}

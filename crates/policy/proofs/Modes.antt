@@ -1,14 +1,12 @@
 -- A register by classes, written out in pairs, is answered the same.
 use Prim.Native.Nat.{ℕ, _<_}
-use mathlib.Core.Path.{_≡_, refl, sym, ap, _∙_}
-use mathlib.Core.Logic.{_⊎_, inl, inr, ⊎-elim}
-use mathlib.Core.Bool.{Bool, true, false, cond, not, _&&_, _||_}
-use mathlib.Core.List.{List, [], _∷_}
+use mathlib.Core.Path.{_≡_, sym, ap, _∙_}
+use mathlib.Core.Logic.{_⊎_, ⊎-elim}
+use mathlib.Core.Bool.{Bool, true, false, cond, _&&_}
+use mathlib.Core.List.{List}
 use lib.ListN.{length, getD}
-use lib.Dec.{eqb, ltb}
 use borrow.Author.Tests.{eq-eqb, ne-eqb, le-ltb, leb-false}
-use Rattle.vocabulary.specs.Answer.{Answer, answer, judge}
-use Rattle.vocabulary.specs.Those.{those, some}
+use Rattle.vocabulary.specs.Answer.{judge}
 use Rattle.vocabulary.proofs.Those.{those-agree, those-never}
 use Rattle.vocabulary.proofs.Judge.{Passed, judge-append, judge-passed, judge-either}
 use Rattle.vocabulary.proofs.Bools.{not-both, true-or-false}
@@ -16,7 +14,7 @@ use Rattle.register.specs.Register.{Register, folders, clientOf, earlier, later
 use Rattle.policy.specs.Conflict.{oneClass, paired, inConflict}
 use Rattle.policy.specs.Rules.{rowOf, cell, canRead, rivals, foreigners, stakes, lost, rowAfter}
 use Rattle.policy.specs.Outcome.{Request, Log, requestChecks, wallChecks, wallAnswer, decision, outcome}
-use Rattle.policy.specs.Modes.{inPairs, OneClassOf, WrittenOut, SameByPairs}
+use Rattle.policy.specs.Modes.{inPairs, WrittenOut, SameByPairs}
 use Rattle.policy.proofs.Accepted.{passed}
 use Rattle.policy.proofs.Conflict.{Telling, by-classes, Named, pair-named}
 

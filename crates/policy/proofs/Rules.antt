@@ -7,7 +7,7 @@ use mathlib.Core.List.{List}
 use native.Mathlib.Omega.{arith}
 use native.Mathlib.Decide.{ℕ-discrete}
 use lib.Dec.{eqb, leb}
-use borrow.Author.Tests.{eq-eqb, ne-eqb, eqb-true, eqb-false, not-true, leb-true, lt-ltb}
+use borrow.Author.Tests.{ne-eqb, eqb-true, eqb-false, not-true, leb-true, lt-ltb}
 use Rattle.vocabulary.specs.Answer.{answer, judge}
 use Rattle.vocabulary.specs.Those.{some, smallest, member}
 use Rattle.vocabulary.proofs.Those.{those-empty, some-none, smallest-holds, member-those}

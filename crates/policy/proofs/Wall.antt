@@ -1,15 +1,15 @@
 -- The argument behind demand 3, over a bare notion of conflict: it knows of no class, matrix or log.
 use Prim.Native.Nat.{ℕ}
-use mathlib.Core.Path.{_≡_, refl, sym, ap, _∙_}
+use mathlib.Core.Path.{_≡_, refl, sym, _∙_}
 use mathlib.Core.Logic.{_⊎_, inl, inr, ⊎-elim}
-use mathlib.Core.Bool.{Bool, true, false, not, _&&_, _||_, or-true}
+use mathlib.Core.Bool.{Bool, true, false, not, _&&_, or-true}
 use mathlib.Core.List.{List}
 use lib.Dec.{eqb}
 use borrow.Author.Tests.{eqb-true, not-true}
 use Rattle.vocabulary.specs.Those.{member}
-use Rattle.vocabulary.proofs.Bools.{both, either, not-both, eqb-self}
+use Rattle.vocabulary.proofs.Bools.{both, either, eqb-self}
 use Rattle.policy.specs.Rules.{reads, writes}
-use Rattle.policy.specs.Wall.{Wall, Own, Rights, joined, asked, afterGrant, Held, Use, reading, writing, used, TwoHeld, Strayed, Broken, Breaks, Needful}
+use Rattle.policy.specs.Wall.{Wall, Own, Rights, joined, asked, afterGrant, Held, Use, reading, writing, used, TwoHeld, Strayed, Broken, Breaks}
 
 -- What the argument asks of a notion of conflict: no client is in conflict with itself, conflict goes both ways, and 0 is no client.
 pub record Lawful (w : Wall) : Type 0 where

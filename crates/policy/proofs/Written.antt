@@ -2,19 +2,19 @@
 use Prim.Native.Nat.{ℕ, zero, suc, _+_, _≤_, _<_}
 use mathlib.Core.Path.{_≡_, refl, sym, ap, _∙_}
 use mathlib.Core.Logic.{_⊎_, inl, inr, ⊎-elim}
-use mathlib.Core.Bool.{Bool, true, false, cond, not, _&&_, _||_, or-true, false≢true}
+use mathlib.Core.Bool.{true, false, _&&_, or-true, false≢true}
 use mathlib.Core.List.{List, [], _∷_, _++_, map}
 use native.Mathlib.Omega.{arith}
 use native.Mathlib.Decide.{decLt}
 use lib.ListN.{length, getD, replicate, length-append, length-replicate, length-map}
-use lib.Dec.{eqb, ltb}
-use borrow.Author.Tests.{eq-eqb, eqb-true, not-true, not-false, lt-ltb}
+use lib.Dec.{eqb}
+use borrow.Author.Tests.{eq-eqb, eqb-true, lt-ltb}
 use Rattle.vocabulary.specs.Those.{those, some, smallest, member}
 use Rattle.vocabulary.proofs.Those.{those-empty, those-holds, smallest-holds, some-none, member-those, below-suc}
-use Rattle.vocabulary.proofs.Bools.{both, either, not-both, true-or-false, eqb-self, and-both}
-use Rattle.register.specs.Register.{Register, folders, clientOf, pairs, Accepted}
+use Rattle.vocabulary.proofs.Bools.{both, either, not-both, true-or-false, eqb-self}
+use Rattle.register.specs.Register.{Register, folders, clientOf, pairs}
 use Rattle.policy.specs.Conflict.{oneClass, pairNames, paired}
-use Rattle.policy.specs.Modes.{inPairs, OneClassOf, WrittenOut, newClient, facing, writtenFirsts, writtenSeconds, CanBeWritten}
+use Rattle.policy.specs.Modes.{inPairs, OneClassOf, newClient, facing, writtenFirsts, writtenSeconds, CanBeWritten}
 use Rattle.policy.proofs.Conflict.{Telling, by-classes, pairs-turned}
 
 -- ---- pairs in two lists

@@ -1,12 +1,11 @@
 -- The register check in its two modes: three rows that both have, and one more by pairs.
-use Prim.Native.Nat.{ℕ}
 use mathlib.Core.Path.{_≡_, refl, sym, ap, _∙_}
-use mathlib.Core.Logic.{_⊎_, inl, inr, ⊎-elim}
+use mathlib.Core.Logic.{_⊎_, ⊎-elim}
 use mathlib.Core.Bool.{Bool, true, false, cond, not, _&&_}
-use mathlib.Core.List.{List, [], _∷_, _++_}
+use mathlib.Core.List.{List, [], _∷_}
 use Rattle.vocabulary.specs.Answer.{Answer, Check, answer, check, judge}
 use Rattle.vocabulary.specs.Those.{those, some, smallest}
-use Rattle.vocabulary.proofs.Judge.{Passed, judge-append, judge-silent, judge-passed, judge-either}
+use Rattle.vocabulary.proofs.Judge.{judge-silent, judge-passed, judge-either}
 use Rattle.register.specs.Register.{Register, folders, inRange, loneZero, earlier, later, twoClasses, badPairs, registerChecks, registerAnswer}
 use Rattle.register.specs.Claims.{inClasses, ModesChecked}
 

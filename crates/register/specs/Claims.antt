@@ -1,5 +1,4 @@
 -- What the mode changes in the register check (document 02, C-12).
-use Prim.Native.Nat.{ℕ}
 use mathlib.Core.Path.{_≡_}
 use mathlib.Core.Bool.{true, false, cond}
 use mathlib.Core.List.{[]}

@@ -2,12 +2,12 @@
 use Prim.Native.Nat.{ℕ}
 use mathlib.Core.Path.{_≡_, refl, sym, ap, _∙_}
 use mathlib.Core.Logic.{_⊎_, inl, inr}
-use mathlib.Core.Bool.{true, false, not}
-use mathlib.Core.List.{List, [], _∷_}
+use mathlib.Core.Bool.{true, false}
+use mathlib.Core.List.{List}
 use lib.ListN.{length}
-use lib.Dec.{eqb, leb, ltb}
+use lib.Dec.{eqb, ltb}
 use borrow.Author.Tests.{leb-false, lt-ltb, not-false}
-use Rattle.vocabulary.specs.Answer.{Answer, answer, check}
+use Rattle.vocabulary.specs.Answer.{Answer, answer}
 use Rattle.vocabulary.proofs.Bools.{true-or-false, not-both, neither}
 use Rattle.vocabulary.proofs.Judge.{judge-silent}
 use Rattle.register.specs.Register.{Register, registerOf}

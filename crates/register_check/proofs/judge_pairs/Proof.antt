@@ -1,6 +1,5 @@
 -- `judge_pairs` meets its contract: by classes the pairs are not looked at.
 use borrow.Author.Tests.{not-true, not-false}
-use native.Mathlib.Omega.{arith}
 use borrow.Author.Needs.{needs}
 use Rattle.register_check.proofs.judge_pairs.Statement.{statement}
 use Rattle.register_check.proofs.judge_pairs.Tie as tie

@@ -1,5 +1,4 @@
 -- `bad_pair` meets its contract, test by test.
-use native.Mathlib.Omega.{arith}
 use borrow.Author.Needs.{needs}
 use Rattle.register_pairs.proofs.bad_pair.Statement.{statement}
 use Rattle.register_pairs.proofs.bad_pair.Tie as tie

@@ -1,5 +1,4 @@
 -- `in_numbers` meets its contract, response by response.
-use native.Mathlib.Omega.{arith}
 use borrow.Author.Needs.{needs}
 use Rattle.response.proofs.in_numbers.Statement.{statement}
 use Rattle.response.proofs.in_numbers.Tie as tie

@@ -1,5 +1,4 @@
 -- `by_ruling` meets its contract: each ruling has its decision.
-use native.Mathlib.Omega.{arith}
 use borrow.Author.Needs.{needs}
 use Rattle.row_decision.proofs.by_ruling.Statement.{statement}
 use Rattle.row_decision.proofs.by_ruling.Tie as tie

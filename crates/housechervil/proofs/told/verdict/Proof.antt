@@ -1,5 +1,4 @@
 -- `verdict` meets its contract: each arm writes one answer of the register check.
-use native.Mathlib.Omega.{arith}
 use borrow.Author.Needs.{needs}
 use Rattle.housechervil.proofs.told.verdict.Statement.{statement}
 use Rattle.housechervil.proofs.told.verdict.Tie as tie
