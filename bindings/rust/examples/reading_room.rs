@@ -6,8 +6,8 @@ use std::error::Error;
 use std::io::{self, Write};
 
 use housechervil::{
-    check_log, folder_name, pack, ClassNo, ClientNo, FolderNo, Granted, Kind, LoginNo, Record, Refusal, Room, Serial,
-    Verdict,
+    check_log, folder_name, pack, ClassNo, ClientNo, Conflicts, FolderNo, Granted, Kind, LoginNo, Record, Refusal,
+    Room, Serial, Verdict,
 };
 
 const READERS: [&str; 2] = ["Ada", "Ben"];
@@ -49,11 +49,11 @@ pub fn run(out: &mut dyn Write) -> Result<(), Box<dyn Error>> {
     let mut labels = FOLDERS.map(|(class, client)| (ClassNo(class), ClientNo(client)));
     labels[4].0 = ClassNo(2);
     writeln!(out, "The clerk files the register.")?;
-    if let Err(error) = Room::new(READERS.len(), &labels, 4096, Serial(0)) {
+    if let Err(error) = Room::new(READERS.len(), &labels, Conflicts::ByClass, 4096, Serial(0)) {
         writeln!(out, "It is refused ({}): {error}.", error.number())?;
     }
     labels[4].0 = ClassNo(1);
-    let mut room = Room::new(READERS.len(), &labels, 4096, Serial(0))?;
+    let mut room = Room::new(READERS.len(), &labels, Conflicts::ByClass, 4096, Serial(0))?;
     writeln!(out, "Put right, it is accepted: {} readers, {} folders.", READERS.len(), FOLDERS.len())?;
 
     writeln!(out)?;
