@@ -58,7 +58,8 @@ static unsigned check(call c) {
 }
 
 static hc_reply make(call *c) {
-    return hc_request(c->logins, c->classes, 5, c->clients, 5, c->mode, c->firsts, 1, c->seconds, 1, c->matrix, c->matrix_len, c->login, c->folder, c->kind, c->log, sizeof c->log, c->end, 0);
+    return hc_request(c->logins, c->classes, 5, c->clients, 5, c->mode, c->firsts, 1, c->seconds, 1, c->matrix, c->matrix_len,
+                      c->login, c->folder, c->kind, c->log, sizeof c->log, c->end, 0);
 }
 
 static unsigned ask(call c) {

@@ -63,17 +63,18 @@ static result between(call c, uint16_t first_guard, uint16_t second_guard) {
     lay(&seconds, c.seconds, second_guard);
     memcpy(r.cells, c.cells, sizeof r.cells);
     memset(r.log, 170, sizeof r.log);
-    r.check = hc_register_check(2, c.classes, 6, c.clients, 6, c.mode, firsts.lent + GUARD, c.firsts.len, seconds.lent + GUARD, c.seconds.len);
-    r.reply = hc_request(2, c.classes, 6, c.clients, 6, c.mode, firsts.lent + GUARD, c.firsts.len, seconds.lent + GUARD, c.seconds.len, r.cells, c.cells_len,
-                         c.login, c.folder, c.kind, r.log, sizeof r.log, c.end, c.serial);
-    r.changed = memcmp(firsts.lent, firsts.left, sizeof firsts.lent) != 0 || memcmp(seconds.lent, seconds.left, sizeof seconds.lent) != 0;
+    r.check = hc_register_check(2, c.classes, 6, c.clients, 6, c.mode, firsts.lent + GUARD, c.firsts.len, seconds.lent + GUARD,
+                                c.seconds.len);
+    r.reply = hc_request(2, c.classes, 6, c.clients, 6, c.mode, firsts.lent + GUARD, c.firsts.len, seconds.lent + GUARD, c.seconds.len,
+                         r.cells, c.cells_len, c.login, c.folder, c.kind, r.log, sizeof r.log, c.end, c.serial);
+    r.changed = memcmp(firsts.lent, firsts.left, sizeof firsts.lent) || memcmp(seconds.lent, seconds.left, sizeof seconds.lent);
     return r;
 }
 
 static int same(result a, result b) {
-    return a.check.number == b.check.number && a.reply.number == b.reply.number && a.reply.first == b.reply.first && a.reply.second == b.reply.second &&
-           a.reply.count == b.reply.count && a.reply.end == b.reply.end && a.reply.serial == b.reply.serial &&
-           memcmp(a.cells, b.cells, sizeof a.cells) == 0 && memcmp(a.log, b.log, sizeof a.log) == 0;
+    return a.check.number == b.check.number && a.reply.number == b.reply.number && a.reply.first == b.reply.first &&
+           a.reply.second == b.reply.second && a.reply.count == b.reply.count && a.reply.end == b.reply.end &&
+           a.reply.serial == b.reply.serial && !memcmp(a.cells, b.cells, sizeof a.cells) && !memcmp(a.log, b.log, sizeof a.log);
 }
 
 static void bytes(const char *name, const uint8_t *from, size_t n) {
@@ -84,8 +85,9 @@ static void bytes(const char *name, const uint8_t *from, size_t n) {
 /* Calls, and prints: the check, then all six numbers of the reply, the cells and the log. */
 static void tell(const char *name, call c) {
     result r = between(c, AUTHOR, STRANGER), again = between(c, 0, 0);
-    printf("%s: check %u %u %u, answers %u %u %u %u end %zu serial %u", name, r.check.number, r.check.first, r.check.second, r.reply.number, r.reply.first,
-           r.reply.second, r.reply.count, r.reply.end, r.reply.serial);
+    printf("%s: check %u %u %u, answers %u %u %u %u", name, r.check.number, r.check.first, r.check.second, r.reply.number, r.reply.first,
+           r.reply.second, r.reply.count);
+    printf(" end %zu serial %u", r.reply.end, r.reply.serial);
     bytes(" cells", r.cells, 6);
     bytes(" log", r.log, 9);
     if (!same(r, again)) printf(" (other guards, other answers)");

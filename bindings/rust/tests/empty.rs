@@ -29,7 +29,7 @@ fn empty_register() {
 #[test]
 fn empty_pairs() {
     let none = Pairs::default();
-    assert!(none.is_empty() && none.len() == 0 && none.iter().next().is_none());
+    assert_eq!((none.len(), none.is_empty(), none.iter().next()), (0, true, None));
     assert_eq!(none, Pairs::from([]));
     let labels = [1, 2].map(|client| (ClassNo(1), ClientNo(client)));
     let mut room = Room::new(1, &labels, Conflicts::ByPair(none), 100, Serial(0)).unwrap();

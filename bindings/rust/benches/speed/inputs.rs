@@ -15,24 +15,36 @@ impl Random {
 }
 
 /// A register and what is asked of it.
+#[derive(Clone)]
 pub struct Input {
     pub logins: usize,
     pub classes: Vec<u16>,
     pub clients: Vec<u16>,
+    pub mode: u8,
+    pub firsts: Vec<u16>,
+    pub seconds: Vec<u16>,
     pub matrix: Vec<u8>,
     pub asks: Vec<Ask>,
 }
 
 impl Input {
-    /// A house whose folder f belongs to client `client(f)`; eight clients share a class.
+    /// A house by classes whose folder f belongs to client `client(f)`; eight clients share a class.
     pub fn new(logins: usize, folders: usize, client: impl Fn(usize) -> usize) -> Input {
         let clients: Vec<u16> = (0..folders).map(|folder| client(folder) as u16).collect();
         let classes = clients.iter().map(|&client| if client == 0 { 0 } else { 1 + client / 8 }).collect();
-        Input { logins, classes, clients, matrix: vec![0; logins * folders], asks: Vec::new() }
+        let (firsts, seconds, asks) = (Vec::new(), Vec::new(), Vec::new());
+        Input { logins, classes, clients, mode: 0, firsts, seconds, matrix: vec![0; logins * folders], asks }
     }
 
     pub fn house(&self) -> House<'_> {
-        House { logins: self.logins, classes: &self.classes, clients: &self.clients }
+        House {
+            logins: self.logins,
+            classes: &self.classes,
+            clients: &self.clients,
+            mode: self.mode,
+            firsts: &self.firsts,
+            seconds: &self.seconds,
+        }
     }
 
     pub fn folders(&self) -> usize {
@@ -209,7 +221,7 @@ pub fn orders(pairs: usize) -> Vec<Vec<usize>> {
         .collect()
 }
 
-fn shuffle(random: &mut Random, list: &mut [usize]) {
+pub fn shuffle(random: &mut Random, list: &mut [usize]) {
     for last in (1..list.len()).rev() {
         list.swap(last, random.below(last + 1));
     }
