@@ -173,6 +173,13 @@ pub fn cells() -> Vec<u8> {
     (0..65_536).map(|_| random.below(4) as u8).collect()
 }
 
+/// Sizes of texts, and the folders that are named in them: the first, one in the midst and the last.
+pub const NAMED: [(&str, usize, [u16; 3]); 3] = [
+    ("64 KiB, 512 lines", 65_536, [0, 255, 511]),
+    ("8 KiB, 512 lines", 8_192, [0, 255, 511]),
+    ("128 bytes, 8 lines", 128, [0, 3, 7]),
+];
+
 /// A client's text of folder names and the house's.
 pub struct Texts {
     pub client: Vec<u8>,

@@ -212,12 +212,14 @@ fn requests_by_pairs() {
 }
 
 fn adversaries_by_pairs() {
-    println!("## Request by pairs, clients and pairs chosen against the library, 512 folders, many read rights\n");
+    println!(
+        "## Request by pairs, clients and pairs chosen against the library: a read, 512 folders, many read rights\n"
+    );
     println!("| Clients and pairs | library | Rust, a set | Rust, all pairs for each folder | library / set | library / all pairs |");
     println!("|---|---|---|---|---|---|");
     for (name, input) in paired::adversaries() {
         let ways: [Way; 2] = [baseline::request_by_set, baseline::request_by_search];
-        let measured = compare(contenders(&input, false, &ways));
+        let measured = compare(contenders(&input, true, &ways));
         let times: Vec<String> = measured.iter().map(ns).collect();
         println!("| {name} | {} | {} | {} |", times.join(" | "), ratio(&measured, 1), ratio(&measured, 2));
     }
@@ -385,12 +387,7 @@ fn names() {
     println!("## Folder names, half of the client's lines empty\n");
     println!("| Two texts of | library | Rust | library / Rust |");
     println!("|---|---|---|---|");
-    let sizes = [
-        ("64 KiB, 512 lines", 65_536, [0, 255, 511]),
-        ("8 KiB, 512 lines", 8_192, [0, 255, 511]),
-        ("128 bytes, 8 lines", 128, [0, 3, 7]),
-    ];
-    for (size, len, folders) in sizes {
+    for (size, len, folders) in inputs::NAMED {
         let texts = inputs::texts(len, usize::from(folders[2]) + 1);
         let orders = inputs::orders(texts.len());
         for folder in folders.map(FolderNo) {

@@ -24,12 +24,8 @@ impl Searches for Known {
 /// For each number whether it is a client in conflict with this one.
 fn opponents(house: &House, client: u16) -> Vec<bool> {
     let mut opponent = vec![false; 65_536];
-    for (first, second) in reference::pairs(house) {
-        match client {
-            _ if first == client => opponent[usize::from(second)] = true,
-            _ if second == client => opponent[usize::from(first)] = true,
-            _ => {}
-        }
+    for (first, second) in reference::pairs(house).filter(|&(first, second)| first == client || second == client) {
+        opponent[usize::from(if first == client { second } else { first })] = true;
     }
     opponent
 }
@@ -74,6 +70,20 @@ impl Input {
         Input { mode: 0, ..self.clone() }
     }
 
+    /// So many clients, or fewer, share a class.
+    fn sharing(mut self, clients: usize) -> Input {
+        let mut known: Vec<u16> = Vec::new();
+        for (class, client) in self.classes.iter_mut().zip(&self.clients) {
+            let rank = known.iter().position(|other| other == client).unwrap_or(known.len());
+            if rank == known.len() {
+                known.push(*client);
+            }
+            *class = (1 + rank / clients) as u16;
+        }
+        self
+    }
+
+    /// Makes a request; whether it is granted.
     fn ask(&mut self, ask: Ask) -> bool {
         let mut matrix = std::mem::take(&mut self.matrix);
         let reply = reference::request_with::<Known>(&self.house(), &mut matrix, ask, &mut [0; 1024], 0, 0);
@@ -160,7 +170,8 @@ impl Input {
     }
 }
 
-/// Requests at 512 folders and, but for a house without, 256 pairs; each with whether the row is put back after it.
+/// Requests at 512 folders and, but for a house without, 256 pairs; each with whether the row is put back after it. By classes the
+/// same requests get the same answers, but for those of all sorts, and for the one where an author is refused.
 pub fn requests() -> Vec<(&'static str, Input, bool)> {
     let mut random = Random(29);
     let distinct = different(&mut random, 512);
@@ -173,10 +184,12 @@ pub fn requests() -> Vec<(&'static str, Input, bool)> {
     let own = Input::by_pairs(&distinct, &drawn(&mut random, &distinct, 256));
     let shared = Input::by_pairs(&of_64, &drawn(&mut random, &of_64, 256));
     let none = Input::by_pairs(&distinct, &[]);
-    // The author's folder is somewhere, and so are the readers'.
-    let author = distinct[200];
-    let readers = &distinct[256..];
-    let hub = Input::by_pairs(&distinct, &all_with(&mut random, author, readers));
+    let mut folders: Vec<usize> = (0..512).collect();
+    shuffle(&mut random, &mut folders);
+    let [author, readers @ ..] = &folders[..257] else { unreachable!("there are more") };
+    let readers: Vec<u16> = readers.iter().map(|&folder| distinct[folder]).collect();
+    let hub = Input::by_pairs(&distinct, &all_with(&mut random, distinct[*author], &readers));
+    let is_author = |client: u16| client == distinct[*author];
     let is_reader = |client: u16| readers.contains(&client);
     let any = |_: u16| true;
     let nobody = |_: u16| false;
@@ -184,21 +197,21 @@ pub fn requests() -> Vec<(&'static str, Input, bool)> {
         ("all clients distinct: read, blank row", own.clone().asking(127, 300, 1), true),
         ("… read again, many read rights", own.clone().many_reads(512, nobody, any), false),
         ("… read, refused with 20 for a late folder", own.clone().late_rival(), false),
-        ("… a thousand of all sorts", own.after_a_history(), true),
+        ("… a thousand of all sorts", own.sharing(2).after_a_history(), true),
         ("64 clients: read, blank row", shared.clone().asking(127, 300, 1), true),
         ("… read again, many read rights", shared.clone().many_reads(512, nobody, any), false),
-        ("… a thousand of all sorts", shared.after_a_history(), true),
+        ("… a thousand of all sorts", shared.sharing(8).after_a_history(), true),
         (
             "an author and 256 readers: the author, many read rights",
-            hub.clone().many_reads(512, is_reader, |c| c == author),
+            hub.clone().many_reads(512, is_reader, is_author),
             false,
         ),
         (
             "… the author, refused with 20",
-            hub.clone().many_reads(512, |c| c == author, is_reader).asking_all(200),
-            false,
+            hub.clone().many_reads(512, is_author, is_reader).asking_all(*author as u16),
+            true,
         ),
-        ("… a reader, many read rights", hub.clone().many_reads(512, |c| c == author, is_reader), false),
+        ("… a reader, many read rights", hub.clone().many_reads(512, is_author, is_reader), false),
         ("… a thousand of all sorts", hub.after_a_history(), true),
         ("no pairs: read again, many read rights", none.clone().many_reads(512, nobody, any), false),
         ("… a thousand of all sorts", none.after_a_history(), true),
@@ -235,25 +248,36 @@ pub fn adversaries() -> Vec<(String, Input)> {
     ];
     let mut inputs = Vec::new();
     for (name, clients) in houses {
-        let mut others: Vec<u16> = clients.clone();
-        others.sort_unstable();
-        others.dedup();
-        let count = 256.min(others.len() * (others.len() - 1) / 2);
-        let pairs = drawn(&mut random, &others, count);
-        let input = Input::by_pairs(&clients, &pairs).many_reads(512, |_| false, |_| true);
-        inputs.push((format!("{name}, {count} pairs drawn among them"), input));
-
-        let hub = clients[300];
-        let opponents: Vec<u16> = others.iter().copied().filter(|&client| client != hub).collect();
-        let (half, _) = opponents.split_at(256.min(opponents.len() / 2));
-        // Where there are fewer than 256 of them, pairs stand there again.
-        let opponents: Vec<u16> = half.iter().copied().cycle().take(256).collect();
-        let pairs = all_with(&mut random, hub, &opponents);
-        let spared = |client: u16| half.contains(&client);
-        let input = Input::by_pairs(&clients, &pairs).many_reads(512, spared, |client| client == hub);
-        inputs.push(("… all 256 pairs with the one asked for".to_string(), input));
+        let (drawn, hub) = (drawn_among(&mut random, &clients), all_with_one(&mut random, &clients));
+        inputs.push((format!("{name}, 256 pairs drawn among them"), drawn(512)));
+        inputs.push(("… all 256 pairs with the one asked for".to_string(), hub(512)));
+        if name == "clients in steps of 64" {
+            inputs.push(("… the same, 8 read rights".to_string(), hub(8)));
+            inputs.push(("… the drawn ones, 8 read rights".to_string(), drawn(8)));
+        }
     }
     inputs
+}
+
+/// 256 pairs drawn among these clients, of whom each login may read so many folders.
+fn drawn_among<'a>(random: &mut Random, clients: &'a [u16]) -> impl Fn(usize) -> Input + 'a {
+    let pairs = drawn(random, clients, 256);
+    move |reads| Input::by_pairs(clients, &pairs).many_reads(reads, |_| false, |_| true)
+}
+
+/// 256 pairs of one of these clients, which is to be asked for, with others; where there are too few of them, pairs stand there again.
+fn all_with_one<'a>(random: &mut Random, clients: &'a [u16]) -> impl Fn(usize) -> Input + 'a {
+    let hub = clients[300];
+    let mut others: Vec<u16> = clients.iter().copied().filter(|&client| client != hub).collect();
+    others.sort_unstable();
+    others.dedup();
+    others.truncate(256.min(others.len() / 2));
+    let again: Vec<u16> = others.iter().copied().cycle().take(256).collect();
+    let pairs = all_with(random, hub, &again);
+    move |reads| {
+        let spared = |client: u16| others.contains(&client);
+        Input::by_pairs(clients, &pairs).many_reads(reads, spared, |client| client == hub)
+    }
 }
 
 /// Houses whose pairs grow: 512 folders, all clients distinct, many read rights.
