@@ -184,6 +184,8 @@ pub const NAMED: [(&str, usize, [u16; 3]); 3] = [
 pub struct Texts {
     pub client: Vec<u8>,
     pub house: Vec<u8>,
+    /// Sets the next texts apart: texts that all begin a multiple of 64 KiB apart would fight for the same places of the cache.
+    _gap: Vec<u8>,
 }
 
 /// Some dozens of pairs of texts of `len` bytes and so many lines each. Half of the client's lines are empty, other ones in each pair.
@@ -193,6 +195,7 @@ pub fn texts(len: usize, lines: usize) -> Vec<Texts> {
         .map(|_| Texts {
             client: text(&mut random, len, lines, lines / 2),
             house: text(&mut random, len, lines, lines),
+            _gap: vec![0; 64 + random.below(4096)],
         })
         .collect()
 }
