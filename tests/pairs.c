@@ -88,8 +88,8 @@ static void tell(const char *name, call c) {
     printf("%s: check %u %u %u, answers %u %u %u %u", name, r.check.number, r.check.first, r.check.second, r.reply.number, r.reply.first,
            r.reply.second, r.reply.count);
     printf(" end %zu serial %u", r.reply.end, r.reply.serial);
-    bytes(" cells", r.cells, 6);
-    bytes(" log", r.log, 9);
+    bytes(" cells", r.cells, sizeof r.cells);
+    bytes(" log", r.log, sizeof r.log);
     if (!same(r, again)) printf(" (other guards, other answers)");
     if (r.changed || again.changed) printf(" (an entry changed)");
     printf("\n");
@@ -104,20 +104,20 @@ static call ask(list firsts, list seconds, const char *row, uint16_t folder, uin
 
 /* ---- the edges */
 
-/* The author is in conflict with each reader: the two pairs of the incident, once one way round, once the other. */
+/* The author is in conflict with each reader: the two pairs of the incident, one of them one way round, the other the other. */
 static void incident(void) {
-    list author = LIST(AUTHOR, OTHER), reader = LIST(READER, AUTHOR);
-    tell("a reader, the other one read", ask(author, reader, "000100", 2, HC_READ));
-    tell("the other, one reader read", ask(author, reader, "001000", 3, HC_READ));
-    tell("the author, both readers read", ask(author, reader, "001100", 1, HC_READ));
-    tell("the author, the other reader read", ask(author, reader, "000100", 5, HC_READ));
-    tell("a reader, the author read", ask(author, reader, "010000", 2, HC_READ));
-    tell("the other, the author's second folder read", ask(author, reader, "000001", 3, HC_READ));
-    tell("the stranger, all read", ask(author, reader, "111101", 4, HC_READ));
-    tell("the shelf, all read", ask(author, reader, "011111", 0, HC_READ));
-    tell("a reader, the shelf read", ask(author, reader, "100000", 2, HC_READ));
-    tell("the author again", ask(author, reader, "010001", 1, HC_READ));
-    call by_classes = ask(author, reader, "000100", 2, HC_READ);
+    list firsts = LIST(OTHER, AUTHOR), seconds = LIST(AUTHOR, READER);
+    tell("a reader, the other one read", ask(firsts, seconds, "000100", 2, HC_READ));
+    tell("the other, one reader read", ask(firsts, seconds, "001000", 3, HC_READ));
+    tell("the author, both readers read", ask(firsts, seconds, "001100", 1, HC_READ));
+    tell("the author, the other reader read", ask(firsts, seconds, "000100", 5, HC_READ));
+    tell("a reader, the author read", ask(firsts, seconds, "010000", 2, HC_READ));
+    tell("the other, the author's second folder read", ask(firsts, seconds, "000001", 3, HC_READ));
+    tell("the stranger, all read", ask(firsts, seconds, "111101", 4, HC_READ));
+    tell("the shelf, all read", ask(firsts, seconds, "011111", 0, HC_READ));
+    tell("a reader, the shelf read", ask(firsts, seconds, "100000", 2, HC_READ));
+    tell("the author again", ask(firsts, seconds, "010001", 1, HC_READ));
+    call by_classes = ask(firsts, seconds, "000100", 2, HC_READ);
     by_classes.mode = HC_BY_CLASSES;
     tell("by classes, a reader, the other one read", by_classes);
 }
@@ -144,12 +144,12 @@ static void good(void) {
     tell("the same pair both ways", ask(LIST(READER, AUTHOR), LIST(AUTHOR, READER), "001000", 1, HC_READ));
     tell("clients without a folder", ask(LIST(1, 65535, 2), LIST(AUTHOR, 1, 3), "001110", 1, HC_READ));
     tell("the second pair", ask(LIST(READER, AUTHOR), LIST(STRANGER, OTHER), "001110", 1, HC_READ));
-    static const uint8_t modes[] = {1, 2, 127, 128, 255};
+    static const uint8_t modes[] = {0, 1, 2, 127, 128, 255};
     for (size_t i = 0; i < sizeof modes; i++) {
-        call c = ask(LIST(AUTHOR), LIST(READER), "001000", 1, HC_READ);
+        call c = ask(LIST(STRANGER), LIST(AUTHOR), "001010", 1, HC_READ);
         c.mode = modes[i];
         printf("mode %u, ", modes[i]);
-        tell("one pair", c);
+        tell("a pair of two classes", c);
     }
 }
 

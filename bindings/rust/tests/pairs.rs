@@ -178,6 +178,28 @@ fn pairs_that_pass() {
     }
 }
 
+/// In class mode pairs are not looked at: good ones make no conflict and take none away, bad ones are no fault.
+#[test]
+fn idle_in_class_mode() {
+    let labels = Owned::new(1, &[(1, 1), (1, 2), (2, 3)]);
+    let lists: [(&[u16], &[u16]); 7] = [
+        (&[], &[]),
+        (&[1], &[3]),
+        (&[3, 2], &[1, 3]),
+        (&[0], &[0]),
+        (&[1, 1], &[2]),
+        (&[2], &[2]),
+        (&[1; 300], &[3; 300]),
+    ];
+    for (firsts, seconds) in lists {
+        let house = Owned { firsts: firsts.to_vec(), seconds: seconds.to_vec(), ..labels.clone() };
+        assert_eq!(checked(&house), 0);
+        assert_eq!(asked(&house, &[1, 0, 1], 1, 1), (20, 0));
+        assert_eq!(asked(&house, &[1, 1, 0], 2, 1), (0, 0));
+        assert_eq!(asked(&house, &[0, 0, 1], 0, 1), (0, 0));
+    }
+}
+
 /// Every mode but 0 is by pair.
 #[test]
 fn every_mode() {
@@ -466,6 +488,23 @@ fn any(random: &mut Random, house: &Owned) -> Ask {
     }
 }
 
+/// Two houses are asked the same, request for request, on the same matrix: they answer the same, and leave the same rights and log.
+fn alike(random: &mut Random, houses: [Owned; 2], matrix: &[u8], log_len: usize, tally: &mut Tally) {
+    let [one, other] = houses;
+    let (mut matrix, mut log) = (Guarded::new(random, matrix), Guarded::new(random, &vec![0; log_len]));
+    let (mut other_matrix, mut other_log) = (matrix.clone(), log.clone());
+    let (mut end, mut serial) = (0, support::serial(random));
+    for _ in 0..150 {
+        let ask = any(random, &one);
+        let reply = same_request(&one.lend(), &mut matrix, ask, &mut log, end, serial);
+        let other = same_request(&other.lend(), &mut other_matrix, ask, &mut other_log, end, serial);
+        assert_eq!(reply, other, "{ask:?}");
+        tally.add(reply.answer.map_or_else(|refusal| refusal.numbers()[0], |_| 0));
+        (end, serial) = (reply.end, reply.serial);
+    }
+    assert!(matrix == other_matrix && log == other_log);
+}
+
 /// With the pairs of a class register written out, pair mode gives class mode's answers, rights and log, over whole histories and on rows
 /// that no history leads to.
 #[test]
@@ -487,25 +526,12 @@ fn classes_written_out_as_pairs() {
         }
         most = most.max(pairs.len());
         let by_pair = by_class.clone().paired(random.pick(&BY_PAIR), &pairs);
-        let content = match round % 3 {
+        let matrix = match round % 3 {
             0 => cells(&mut random, logins * folders),
             _ => vec![0; logins * folders],
         };
-        let matrix = Guarded::new(&mut random, &content);
         let log_len = random.pick(&[700, 8_000]);
-        let log = Guarded::new(&mut random, &vec![0; log_len]);
-        let mut ours = [(by_class, matrix.clone(), log.clone()), (by_pair, matrix, log)];
-        let (mut end, mut serial) = (0, support::serial(&mut random));
-        for _ in 0..150 {
-            let ask = any(&mut random, &ours[0].0);
-            let [reply, other] =
-                ours.each_mut().map(|(house, matrix, log)| same_request(&house.lend(), matrix, ask, log, end, serial));
-            assert_eq!(reply, other, "{ask:?}");
-            tally.add(reply.answer.map_or_else(|refusal| refusal.numbers()[0], |_| 0));
-            (end, serial) = (reply.end, reply.serial);
-        }
-        let [(_, matrix, log), (_, other_matrix, other_log)] = &ours;
-        assert!(matrix == other_matrix && log == other_log);
+        alike(&mut random, [by_class, by_pair], &matrix, log_len, &mut tally);
     }
     tally.met(&[0, 5, 6, 7, 20, 21, 22, 30], 100);
     assert!(most > 200, "at most {most} pairs were written out");
@@ -523,25 +549,14 @@ fn the_same_pairs_in_another_form() {
         for at in (1..pairs.len()).rev() {
             pairs.swap(at, random.below(at + 1));
         }
-        let other: Vec<Pair> = pairs
+        let again: Vec<Pair> = pairs
             .iter()
             .chain(&pairs)
             .take(256)
             .map(|&(first, second)| if random.once_in(2) { (first, second) } else { (second, first) })
             .collect();
-        let matrix = Guarded::new(&mut random, &vec![0; logins * folders]);
-        let log = Guarded::new(&mut random, &[0; 4_000]);
-        let mut ours = [(house.clone(), matrix.clone(), log.clone()), (house.paired(9, &other), matrix, log)];
-        let (mut end, mut serial) = (0, 0);
-        for _ in 0..80 {
-            let ask = any(&mut random, &ours[0].0);
-            let [reply, other] =
-                ours.each_mut().map(|(house, matrix, log)| same_request(&house.lend(), matrix, ask, log, end, serial));
-            assert_eq!(reply, other, "{ask:?}");
-            tally.add(reply.answer.map_or_else(|refusal| refusal.numbers()[0], |_| 0));
-            (end, serial) = (reply.end, reply.serial);
-        }
-        assert!(ours[0].1 == ours[1].1 && ours[0].2 == ours[1].2);
+        let other = house.clone().paired(random.pick(&BY_PAIR), &again);
+        alike(&mut random, [house, other], &vec![0; logins * folders], 4_000, &mut tally);
     }
     tally.met(&[0, 5, 6, 7, 20, 21, 22], 40);
 }
