@@ -197,7 +197,7 @@ impl Owned {
     }
 
     /// The same by pairs, drawn among its clients and some others: in no order, repeated, reversed and overlapping, or all with one
-    /// client. Houses in class mode have none.
+    /// client.
     pub fn with_pairs(self, random: &mut Random) -> Owned {
         let strangers = random.pick(&[2, 10, 1_000_000]);
         let hub = random.once_in(5).then(|| self.client(random, strangers));
@@ -240,7 +240,7 @@ impl Owned {
         self
     }
 
-    /// Damages the pairs in one way; some of them happen to do no harm.
+    /// Damages the pairs in one way, or more where they grow; some of them happen to do no harm.
     pub fn damage_pairs(&mut self, random: &mut Random) {
         let place = random.below(self.firsts.len().max(1));
         let any = self.client(random, 10);
