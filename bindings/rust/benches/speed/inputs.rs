@@ -184,8 +184,6 @@ pub const NAMED: [(&str, usize, [u16; 3]); 3] = [
 pub struct Texts {
     pub client: Vec<u8>,
     pub house: Vec<u8>,
-    /// Sets the next texts apart: texts that all begin a multiple of 64 KiB apart would fight for the same places of the cache.
-    _gap: Vec<u8>,
 }
 
 /// Some dozens of pairs of texts of `len` bytes and so many lines each. Half of the client's lines are empty, other ones in each pair.
@@ -195,7 +193,6 @@ pub fn texts(len: usize, lines: usize) -> Vec<Texts> {
         .map(|_| Texts {
             client: text(&mut random, len, lines, lines / 2),
             house: text(&mut random, len, lines, lines),
-            _gap: vec![0; 64 + random.below(4096)],
         })
         .collect()
 }
@@ -210,7 +207,8 @@ fn text(random: &mut Random, len: usize, lines: usize, named: usize) -> Vec<u8> 
         two[1] = 2 * mean - two[0];
     }
     shuffle(random, &mut lengths);
-    let mut text = Vec::with_capacity(len);
+    // Texts that all begin a multiple of 64 KiB apart would fight for the same places of the cache: some room behind sets them apart.
+    let mut text = Vec::with_capacity(len + random.below(4096));
     for length in lengths {
         text.extend((0..length).map(|_| b'a' + random.below(26) as u8));
         text.push(10);

@@ -376,7 +376,7 @@ fn naming<'a>(
     Box::new(move |times| {
         for order in orders.by_ref().take(times) {
             for &pair in order {
-                let Texts { client, house, .. } = &texts[pair];
+                let Texts { client, house } = &texts[pair];
                 black_box(way(black_box(client), black_box(house), black_box(folder)));
             }
         }
@@ -391,7 +391,7 @@ fn names() {
         let texts = inputs::texts(len, usize::from(folders[2]) + 1);
         let orders = inputs::orders(texts.len());
         for folder in folders.map(FolderNo) {
-            for Texts { client, house, .. } in &texts {
+            for Texts { client, house } in &texts {
                 let name = housechervil::folder_name(client, house, folder).expect("the house names every folder");
                 assert_eq!(
                     baseline::folder_name(client, house, folder).map(<[u8]>::as_ptr_range),

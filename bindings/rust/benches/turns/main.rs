@@ -174,7 +174,7 @@ impl Library {
         }
     }
 
-    fn folder_name(&self, Texts { client, house, .. }: &Texts, folder: u16) -> Stretch {
+    fn folder_name(&self, Texts { client, house }: &Texts, folder: u16) -> Stretch {
         unsafe { (self.folder_name)(client.as_ptr(), client.len(), house.as_ptr(), house.len(), folder) }
     }
 }
