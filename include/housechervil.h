@@ -9,9 +9,15 @@
  *
  * THE HOUSE
  *   Logins are numbered from 0; there are P of them, 1 to 128: the parameter `logins`. Folders are numbered from 0; there are F of
- *   them, 1 to 512: the common length of the two lists.
+ *   them, 1 to 512: the common length of the lists of classes and clients.
  *   The register gives each folder a class and a client, 0 to 65,535, in two lists in folder order. Client 0 with class 0 marks a
  *   sanitised folder; neither 0 may stand without the other. Two folders of one client have one class.
+ *   The mode says which clients are in conflict. By classes (HC_BY_CLASSES): two different clients of one class; the lists of pairs
+ *   are not looked at. By pairs (HC_BY_PAIRS, and every other mode that is not 0): two clients that some pair names both, whichever
+ *   way round, and no others; classes then count for nothing but the register's own check. A pair is an entry of `firsts` with the
+ *   entry of `seconds` at the same place; there are 0 to 256. A pair may stand there twice, either way round, and its clients need
+ *   not have folders. Sanitised folders are in conflict with none. The wall is proved for a house that keeps its labels, mode and
+ *   pairs from the blank matrix on.
  *   The matrix has P times F bytes, login by login. A cell is 0 for no right, 1 for read, 2 for write, 3 for both; blank is all 0.
  *   The log is a lent buffer with an end, the place where the next record goes: 0 in an empty log.
  *   Serials number the records; the caller gives the first, and each reply gives the next. After 65,535 comes 0.
@@ -21,7 +27,8 @@
  *   said below, keeps no pointer and allocates nothing; as built it needs less than 8 KiB of stack, and of the C library only memset.
  *   It has no state: calls may run at the same time unless one of them writes a buffer that another uses.
  *   A length may be 0, and then nothing is read or written through the pointer. Pass a pointer that is not null and is aligned
- *   even then (any object of the element's type will do): compiled code may assume it.
+ *   even then (any object of the element's type will do): compiled code may assume it. So too `firsts` and `seconds` in class mode,
+ *   where `clients, 0, clients, 0` will do.
  *   A buffer that is written overlaps with no other list or buffer of the same call. No length is above PTRDIFF_MAX bytes.
  *
  * ANSWERS
@@ -49,9 +56,14 @@
 #define HC_LOGINS_MAX 128   /* the most logins */
 #define HC_FOLDERS_MAX 512  /* the most folders */
 #define HC_MATRIX_MAX 65536 /* the bytes of the largest matrix */
+#define HC_PAIRS_MAX 256    /* the most pairs of clients in conflict */
 #define HC_RECORD_MAX 904   /* the bytes of the longest record: with this much room left a request is never answered 30 */
 
 /* ---- names; the tables at the functions say when each answer is given */
+
+/* The modes: how it is told which clients are in conflict. */
+#define HC_BY_CLASSES 0
+#define HC_BY_PAIRS 1
 
 /* The kinds of request. */
 #define HC_READ 1
@@ -77,6 +89,7 @@
 #define HC_NO_KIND 7
 #define HC_ROW_CELL 8
 #define HC_LOG_END_PAST_BUFFER 9
+#define HC_BAD_PAIRS 11
 #define HC_RIVAL 20
 #define HC_FOREIGN 21
 #define HC_AT_STAKE 22
@@ -123,6 +136,7 @@ __attribute__((unused)) static inline const char *hc_answer_words(uint16_t numbe
     case HC_NO_KIND: return "there is no such kind of request";
     case HC_ROW_CELL: return "a cell of the login's row is above 3";
     case HC_LOG_END_PAST_BUFFER: return "the log's end lies past its buffer";
+    case HC_BAD_PAIRS: return "over 256 pairs, their lists of unequal length, or a pair with client 0 or one client twice";
     case HC_RIVAL: return "the login may read a folder of a rival";
     case HC_FOREIGN: return "the login may read a folder of another client";
     case HC_AT_STAKE: return "a write right would be lost";
@@ -168,23 +182,27 @@ extern "C" {
  *   2       exactly one of class and client is 0                            the first such folder
  *   3       a client has two classes                                        the first folder that differs from an earlier one of
  *                                                                           its client, and the first such earlier one
+ *   11      by pairs, and their lists are of unequal length, there are
+ *           over 256 pairs, or a pair names client 0 or one client twice
  *
- * Refusal 2 is sought through the whole register before 3.
+ * Refusal 2 is sought through the whole register before 3. In class mode 11 is not given, whatever the lists of pairs hold.
  */
 typedef struct {
     uint16_t number, first, second;
 } hc_register_answer;
 
 hc_register_answer hc_register_check(size_t logins, const uint16_t *classes, size_t classes_len, const uint16_t *clients,
-                                     size_t clients_len);
+                                     size_t clients_len, uint8_t mode, const uint16_t *firsts, size_t firsts_len,
+                                     const uint16_t *seconds, size_t seconds_len);
 
 /* ---- the request */
 
 /*
  * A request of `login` for `folder`. The kinds are HC_READ, HC_CAREFUL_READ, HC_WRITE and HC_READ_AND_WRITE, 1 to 4.
  *
- *   Rival: a folder that the login may read, of the asked folder's class and of another client.
- *   Foreign: a folder that the login may read, not sanitised, whose client is not the asked folder's.
+ *   Rival: a folder that the login may read, of a client in conflict with the asked folder's. By classes that is a folder of the
+ *   asked folder's class and of another client; by pairs, one whose client a pair names together with the asked folder's.
+ *   Foreign: a folder that the login may read, not sanitised, whose client is not the asked folder's, in conflict or not.
  *   At stake: a folder that the login may write, whose client is not the asked folder's; there are none if the asked
  *   folder is sanitised. A sanitised folder that is at stake loses its write right like any other.
  *
@@ -201,6 +219,8 @@ hc_register_answer hc_register_check(size_t logins, const uint16_t *classes, siz
  *   1       P or F beyond its range, or lists of unequal length
  *   2       exactly one of class and client is 0                            first: the first such folder
  *   3       a client has two classes                                        first, second: as the register check
+ *   11      by pairs, and the pairs are not good, as the register check
+ *           has it
  *   4       the matrix's length is not P times F
  *   5       login is P or more
  *   6       folder is F or more
@@ -215,9 +235,9 @@ hc_register_answer hc_register_check(size_t logins, const uint16_t *classes, siz
  *           decision is not told
  *
  * `end` and `serial` are the log's new end and the next serial: hand them to the next request.
- *   0             changes the login's row of the matrix and appends a record to the log
- *   20, 21, 22    leave the matrix and append a record
- *   1 to 9, 30    change no byte, and return end and serial as they came
+ *   0               changes the login's row of the matrix and appends a record to the log
+ *   20, 21, 22      leave the matrix and append a record
+ *   1 to 9, 11, 30  change no byte, and return end and serial as they came
  * Log bytes outside the new record stay.
  */
 typedef struct {
@@ -227,6 +247,7 @@ typedef struct {
 } hc_reply;
 
 hc_reply hc_request(size_t logins, const uint16_t *classes, size_t classes_len, const uint16_t *clients, size_t clients_len,
+                    uint8_t mode, const uint16_t *firsts, size_t firsts_len, const uint16_t *seconds, size_t seconds_len,
                     uint8_t *matrix, size_t matrix_len, uint16_t login, uint16_t folder, uint16_t kind, uint8_t *log, size_t log_len,
                     size_t end, uint16_t serial);
 

@@ -5,6 +5,9 @@
 
 #include "housechervil.h"
 
+/* The mode of these cases, with lists of no pairs; pairs.c has the others. */
+#define BY_CLASSES(any) HC_BY_CLASSES, any, 0, any, 0
+
 static void list(const char *name, const uint8_t *bytes, size_t n) {
     printf("%s", name);
     for (size_t i = 0; i < n; i++) printf(" %u", bytes[i]);
@@ -36,7 +39,7 @@ static const uint16_t table_classes[5] = {0, 1, 1, 2, 1};
 static const uint16_t table_clients[5] = {0, 1, 2, 3, 1};
 
 static hc_reply ask_table(uint8_t matrix[10], uint16_t login, uint16_t folder, uint16_t kind, uint8_t *log, size_t log_len, size_t end, uint16_t serial) {
-    return hc_request(2, table_classes, 5, table_clients, 5, matrix, 10, login, folder, kind, log, log_len, end, serial);
+    return hc_request(2, table_classes, 5, table_clients, 5, BY_CLASSES(table_clients), matrix, 10, login, folder, kind, log, log_len, end, serial);
 }
 
 typedef struct {
@@ -132,14 +135,14 @@ static void check(const char *name, size_t logins, const uint16_t *classes, size
     uint8_t matrix[513] = {0};
     uint8_t log[6];
     memset(log, 170, sizeof log);
-    hc_register_answer v = hc_register_check(logins, classes, classes_len, clients, clients_len);
+    hc_register_answer v = hc_register_check(logins, classes, classes_len, clients, clients_len, BY_CLASSES(clients));
     printf("%s check", name);
     if (v.number == HC_ACCEPTED) {
         printf(" 0");
     } else {
         answer(v.number, v.first, v.second, 0);
     }
-    tell(hc_request(logins, classes, classes_len, clients, clients_len, matrix, size, 0, 0, HC_READ, log, sizeof log, 0, 0));
+    tell(hc_request(logins, classes, classes_len, clients, clients_len, BY_CLASSES(clients), matrix, size, 0, 0, HC_READ, log, sizeof log, 0, 0));
     printf("\n");
 }
 
@@ -180,7 +183,7 @@ static void largest(const char *name, uint16_t login, uint16_t folder) {
     memset(matrix, 0, sizeof matrix);
     memset(log, 170, sizeof log);
     for (size_t i = 0; i < 512; i++) ones[i] = 1;
-    hc_reply r = hc_request(128, ones, 512, ones, 512, matrix, sizeof matrix, login, folder, HC_READ_AND_WRITE, log, sizeof log, 0, 0);
+    hc_reply r = hc_request(128, ones, 512, ones, 512, BY_CLASSES(ones), matrix, sizeof matrix, login, folder, HC_READ_AND_WRITE, log, sizeof log, 0, 0);
     printf("%s", name);
     tell(r);
     list(" cells", matrix + 65534, 2);
@@ -195,7 +198,7 @@ static void longest(const char *name, size_t end) {
     for (size_t i = 0; i < 512; i++) labels[i] = i == 511 ? 2 : 1;
     memset(matrix, 2, sizeof matrix);
     memset(log, 170, sizeof log);
-    hc_reply r = hc_request(1, labels, 512, labels, 512, matrix, 512, 0, 511, HC_READ, log, sizeof log, end, 65535);
+    hc_reply r = hc_request(1, labels, 512, labels, 512, BY_CLASSES(labels), matrix, 512, 0, 511, HC_READ, log, sizeof log, end, 65535);
     printf("%s", name);
     tell(r);
     list(" cells", matrix, 4);

@@ -36,6 +36,8 @@ static const uint16_t table_clients[5] = {0, 1, 2, 3, 1};
 typedef struct {
     size_t logins;
     uint16_t classes[5], clients[5];
+    uint8_t mode;
+    uint16_t firsts[1], seconds[1];
     uint8_t matrix[10];
     size_t matrix_len;
     uint16_t login, folder, kind;
@@ -43,20 +45,21 @@ typedef struct {
     size_t end;
 } call;
 
-/* Login 0 of 2 asks to read folder 1, on a blank matrix and an empty log. */
+/* Login 0 of 2 asks to read folder 1, on a blank matrix and an empty log, by classes. By pairs, clients 1 and 3 are in conflict. */
 static call granted(void) {
-    call c = {.logins = 2, .matrix_len = 10, .folder = 1, .kind = HC_READ};
+    call c = {.logins = 2, .firsts = {1}, .seconds = {3}, .matrix_len = 10, .folder = 1, .kind = HC_READ};
     memcpy(c.classes, table_classes, sizeof c.classes);
     memcpy(c.clients, table_clients, sizeof c.clients);
     return c;
 }
 
 static unsigned check(call c) {
-    return hc_register_check(c.logins, c.classes, 5, c.clients, 5).number;
+    return hc_register_check(c.logins, c.classes, 5, c.clients, 5, c.mode, c.firsts, 1, c.seconds, 1).number;
 }
 
 static hc_reply make(call *c) {
-    return hc_request(c->logins, c->classes, 5, c->clients, 5, c->matrix, c->matrix_len, c->login, c->folder, c->kind, c->log, sizeof c->log, c->end, 0);
+    return hc_request(c->logins, c->classes, 5, c->clients, 5, c->mode, c->firsts, 1, c->seconds, 1, c->matrix, c->matrix_len,
+                      c->login, c->folder, c->kind, c->log, sizeof c->log, c->end, 0);
 }
 
 static unsigned ask(call c) {
@@ -77,6 +80,30 @@ static void register_names(void) {
     c.classes[4] = 2;
     WORDED(HC_REGISTER_TWO_CLASSES, check(c));
     WORDED(HC_REGISTER_TWO_CLASSES, ask(c));
+    c = granted();
+    c.mode = HC_BY_PAIRS;
+    PLAIN(HC_ACCEPTED, check(c));
+    c.seconds[0] = 1;
+    WORDED(HC_BAD_PAIRS, check(c));
+    WORDED(HC_BAD_PAIRS, ask(c));
+    c.mode = HC_BY_CLASSES;
+    PLAIN(HC_ACCEPTED, check(c));
+}
+
+/* A mode's number, told by which of two folders stands in folder 1's way: 2 is of its class, 3 is of its pair. */
+static void mode(const char *name, uint8_t named, uint16_t rival) {
+    call c = granted();
+    c.mode = named;
+    c.matrix[2] = c.matrix[3] = HC_MAY_READ;
+    hc_reply r = make(&c);
+    printf("%s %u: %s, folder", name, named, hc_answer_words(r.number));
+    number("", rival, r.first);
+    printf("\n");
+}
+
+static void mode_names(void) {
+    mode("HC_BY_CLASSES", HC_BY_CLASSES, 2);
+    mode("HC_BY_PAIRS", HC_BY_PAIRS, 3);
 }
 
 /* Refusals 4 to 9. */
@@ -195,6 +222,7 @@ static void text_names(void) {
 int main(void) {
     printf("version %s: %d %d %d\n", HC_VERSION, HC_VERSION_MAJOR, HC_VERSION_MINOR, HC_VERSION_PATCH);
     register_names();
+    mode_names();
     request_names();
     wall_names();
     kind_names();

@@ -25,7 +25,8 @@ static void rotate(void) {
 }
 
 static hc_reply request(uint16_t login, uint16_t kind, uint16_t folder) {
-    hc_reply r = hc_request(2, classes, 5, clients, 5, matrix, sizeof matrix, login, folder, kind, log_bytes, sizeof log_bytes, end, serial);
+    hc_reply r = hc_request(2, classes, 5, clients, 5, HC_BY_CLASSES, clients, 0, clients, 0, matrix, sizeof matrix, login, folder, kind,
+                            log_bytes, sizeof log_bytes, end, serial);
     printf("%u asks for %u, %s: %u %s", login, folder, hc_kind_words(kind), r.number, hc_answer_words(r.number));
     if (r.number == HC_GRANTED) printf(", %u taken back", r.count);
     if (r.number == HC_RIVAL || r.number == HC_FOREIGN || r.number == HC_AT_STAKE) printf(", folder %u", r.first);

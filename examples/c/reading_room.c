@@ -1,5 +1,6 @@
 /*
- * A small reading room: it prints the board, files a register, asks for folders, prints each answer in words and then the log.
+ * A small reading room: it prints the board, files a register, asks for folders, prints each answer in words and then the log. At the
+ * end stands a second room, whose conflicts are by pair.
  *
  *     rt staticlib housechervil
  *     make -C examples/c check
@@ -99,7 +100,7 @@ static void print_board(void)
 
 static void file_register(const char *title, const uint16_t *class_list, const uint16_t *client_list)
 {
-    hc_register_answer a = hc_register_check(LOGINS, class_list, FOLDERS, client_list, FOLDERS);
+    hc_register_answer a = hc_register_check(LOGINS, class_list, FOLDERS, client_list, FOLDERS, HC_BY_CLASSES, clients, 0, clients, 0);
 
     printf("%s: ", title);
     switch (a.number) {
@@ -160,8 +161,8 @@ static void print_answer(hc_reply r)
 
 static void ask(room *here, uint16_t login, uint16_t kind, uint16_t folder)
 {
-    hc_reply r = hc_request(LOGINS, classes, FOLDERS, clients, FOLDERS, here->matrix, sizeof here->matrix, login, folder, kind,
-                            here->log, sizeof here->log, here->end, here->serial);
+    hc_reply r = hc_request(LOGINS, classes, FOLDERS, clients, FOLDERS, HC_BY_CLASSES, clients, 0, clients, 0, here->matrix,
+                            sizeof here->matrix, login, folder, kind, here->log, sizeof here->log, here->end, here->serial);
 
     here->end = r.end;
     here->serial = r.serial;
@@ -208,6 +209,34 @@ static void print_log(const room *here)
     }
 }
 
+/* ---- conflicts by pair */
+
+/*
+ * The files of an author and of two readers: each reader is in conflict with the author, not with the other reader. No classes can say
+ * that, since in one class all three are in conflict. Two pairs do, and then the class plays no part.
+ */
+static void read_all(const char *title, uint8_t mode)
+{
+    enum { FILES = 3, PAIRS = 2, DALE = 7, ELM = 8, FIR = 9 };
+    static const char *const files[FILES] = {"Dale, author", "Elm, reader", "Fir, reader"};
+    static const uint16_t one_class[FILES] = {1, 1, 1}, client[FILES] = {DALE, ELM, FIR};
+    static const uint16_t firsts[PAIRS] = {DALE, DALE}, seconds[PAIRS] = {ELM, FIR};
+    static const uint16_t order[FILES] = {1, 2, 0};
+    uint8_t matrix[FILES] = {0}, log[64];
+    hc_reply r = {0};
+
+    printf("%s:\n", title);
+    for (size_t i = 0; i < FILES; i++) {
+        r = hc_request(1, one_class, FILES, client, FILES, mode, firsts, PAIRS, seconds, PAIRS, matrix, sizeof matrix, 0, order[i], HC_READ,
+                       log, sizeof log, r.end, r.serial);
+        printf("%s asks to read '%s': %s", login_names[0], files[order[i]], r.number == HC_GRANTED ? "granted" : "refused");
+        if (r.number == HC_RIVAL) {
+            printf(", '%s' of a rival is open to this login", files[r.first]);
+        }
+        printf("\n");
+    }
+}
+
 int main(int argc, char **argv)
 {
     static const uint16_t slip[FOLDERS] = {0, 1, 1, 2, 2}; /* Aster Bank among the banks, then among the oil companies */
@@ -238,5 +267,8 @@ int main(int argc, char **argv)
     ask(&here, 1, HC_READ, 5);
 
     print_log(&here);
+
+    read_all("an author and two readers, by classes", HC_BY_CLASSES);
+    read_all("the same, each reader in a pair with the author", HC_BY_PAIRS);
     return 0;
 }

@@ -1,4 +1,5 @@
-//! A small reading room: it prints the board, files a register, asks, prints the answers in words, and prints the log.
+//! A small reading room: it prints the board, files a register, asks, prints the answers in words, and prints the log. At the end
+//! stands a second room, whose conflicts are by pair.
 //!
 //! Run it with `cargo run --example reading_room`; its output is kept in `reading_room.stdout`.
 
@@ -6,8 +7,8 @@ use std::error::Error;
 use std::io::{self, Write};
 
 use housechervil::{
-    check_log, folder_name, pack, ClassNo, ClientNo, FolderNo, Granted, Kind, LoginNo, Record, Refusal, Room, Serial,
-    Verdict,
+    check_log, folder_name, pack, ClassNo, ClientNo, Conflicts, FolderNo, Granted, Kind, LoginNo, Record, Refusal,
+    Room, Serial, Verdict,
 };
 
 const READERS: [&str; 2] = ["Ada", "Ben"];
@@ -49,11 +50,11 @@ pub fn run(out: &mut dyn Write) -> Result<(), Box<dyn Error>> {
     let mut labels = FOLDERS.map(|(class, client)| (ClassNo(class), ClientNo(client)));
     labels[4].0 = ClassNo(2);
     writeln!(out, "The clerk files the register.")?;
-    if let Err(error) = Room::new(READERS.len(), &labels, 4096, Serial(0)) {
+    if let Err(error) = Room::new(READERS.len(), &labels, Conflicts::ByClass, 4096, Serial(0)) {
         writeln!(out, "It is refused ({}): {error}.", error.number())?;
     }
     labels[4].0 = ClassNo(1);
-    let mut room = Room::new(READERS.len(), &labels, 4096, Serial(0))?;
+    let mut room = Room::new(READERS.len(), &labels, Conflicts::ByClass, 4096, Serial(0))?;
     writeln!(out, "Put right, it is accepted: {} readers, {} folders.", READERS.len(), FOLDERS.len())?;
 
     writeln!(out)?;
@@ -95,6 +96,35 @@ pub fn run(out: &mut dyn Write) -> Result<(), Box<dyn Error>> {
         }
     }
     writeln!(out, "Packed for the night: {:?}.", pack(room.matrix())?)?;
+
+    author_and_readers(out)
+}
+
+/// The files of an author and of two readers: each reader is in conflict with the author, not with the other reader. No classes can say
+/// that, since in one class all three are in conflict. Two pairs do, and then the class plays no part.
+fn author_and_readers(out: &mut dyn Write) -> Result<(), Box<dyn Error>> {
+    const FILES: [&str; 3] = ["Dale, author", "Elm, reader", "Fir, reader"];
+    let clients @ [dale, elm, fir] = [7, 8, 9].map(ClientNo);
+    let labels = clients.map(|client| (ClassNo(1), client));
+    let pairs = Conflicts::ByPair([(dale, elm), (dale, fir)].into());
+
+    let houses = [("An author and two readers, by class", Conflicts::ByClass), ("The same, by pairs", pairs)];
+    for (title, conflicts) in houses {
+        writeln!(out)?;
+        writeln!(out, "{title}:")?;
+        let mut room = Room::new(1, &labels, conflicts, 4096, Serial(0))?;
+        for file in [1, 2, 0] {
+            write!(out, "{} asks to read '{}': ", READERS[0], FILES[file])?;
+            match room.ask(LoginNo(0), FolderNo(file as u16), Kind::Read) {
+                Ok(_) => writeln!(out, "granted.")?,
+                Err(Refusal::Rival { folder }) => {
+                    let known = FILES[usize::from(folder)];
+                    writeln!(out, "refused, since {} knows '{known}', of a rival.", READERS[0])?;
+                }
+                Err(other) => return Err(other.into()),
+            }
+        }
+    }
     Ok(())
 }
 

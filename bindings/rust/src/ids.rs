@@ -44,7 +44,8 @@ number_type! {
 }
 
 number_type! {
-    /// The number of a class of clients who compete with each other. Class 0 belongs to sanitised folders.
+    /// The number of a class of clients, who compete with each other where conflicts are by class. Class 0 belongs to sanitised
+    /// folders.
     ClassNo
 }
 

@@ -4,7 +4,8 @@
 //! The library is the Chinese Wall policy with explicit revocation of write rights. It is written in Rattle, and each of its
 //! functions is proved to answer, and to leave in every buffer lent, exactly what the rules say, on every input. The rules, with
 //! every answer and its number, stand in the repository's `docs/RULES.md` (tests and decisions call them *document 01*, after the
-//! scope document from which they come). This crate adds no rule of its own: it turns the rules' numbers into Rust's types and back.
+//! scope document from which they come, and *document 02*, the change requests that followed). This crate adds no rule of its own: it
+//! turns the rules' numbers into Rust's types and back.
 //!
 //! # A worked example
 //!
@@ -12,10 +13,10 @@
 //! belong to two rivals of one class.
 //!
 //! ```
-//! use housechervil::{ClassNo, ClientNo, FolderNo, Granted, Kind, LoginNo, Refusal, Room, Serial, Verdict};
+//! use housechervil::{ClassNo, ClientNo, Conflicts, FolderNo, Granted, Kind, LoginNo, Refusal, Room, Serial, Verdict};
 //!
 //! let labels = [(0, 0), (1, 1), (1, 2), (2, 3), (1, 1)].map(|(class, client)| (ClassNo(class), ClientNo(client)));
-//! let mut room = Room::new(2, &labels, 65_536, Serial(0))?;
+//! let mut room = Room::new(2, &labels, Conflicts::ByClass, 65_536, Serial(0))?;
 //!
 //! // Login 0 may write for two clients, as long as nothing unsanitised has been read.
 //! assert_eq!(room.ask(LoginNo(0), FolderNo(1), Kind::Write), Ok(Granted { taken_back: 0 }));
@@ -54,6 +55,7 @@
 //! | a room that keeps its own matrix and log | [`Room`] | |
 //! | a full log taken out of it | [`Room::take_log`] | |
 //! | a room taken apart, and made again of its parts | [`Room::into_parts`], [`Room::resume`] | |
+//! | which clients are in conflict, by class or by pair | [`Conflicts`], [`Pairs`] | the modes and the lists of pairs |
 //! | the register check | [`Register::check`] | `hc_register_check` |
 //! | a request on lent buffers | [`Register::request`] | `hc_request` |
 //! | the log, record by record | [`Records`], [`read_record`] | `hc_log_step` |
@@ -70,10 +72,10 @@
 //! not build:
 //!
 //! ```compile_fail,E0308
-//! use housechervil::{ClassNo, ClientNo, Register};
+//! use housechervil::{ClassNo, ClientNo, Conflicts, Register};
 //! let classes = [ClassNo(1)];
 //! let clients = [ClientNo(1)];
-//! let register = Register::new(1, &clients, &classes); // the wrong way round
+//! let register = Register::new(1, &clients, &classes, &Conflicts::ByClass); // the wrong way round
 //! ```
 //!
 //! # Safety: why a caller can't get undefined behaviour
@@ -89,8 +91,8 @@
 //!   numbers only. What this crate keeps, a [`Record`]'s log for example, and what it hands on, a folder's name, is a
 //!   borrow that the compiler watches.
 //! - **No conditions.** No function of the library has a precondition. Logins, folders and kinds out of range, lists of unequal
-//!   length, a matrix of a wrong length, an end past the log, a place past the log: each has its answer in the rules, is proved
-//!   to be given it, and then no byte has moved. So no check on this side has to hold, and none is relied on.
+//!   length, bad pairs, a matrix of a wrong length, an end past the log, a place past the log: each has its answer in the rules, is
+//!   proved to be given it, and then no byte has moved. So no check on this side has to hold, and none is relied on.
 //! - **Values.** Lent buffers hold `u8` and `u16`, for which every bit pattern is good. Answers come back as plain numbers; a number
 //!   that the rules do not know would be a panic, never an enum with a value it does not have. Places and ends that come back
 //!   are used only as indices that Rust checks.
@@ -113,6 +115,7 @@
 #[allow(non_camel_case_types)]
 mod sys;
 
+mod conflicts;
 mod ids;
 mod log;
 mod names;
@@ -121,6 +124,7 @@ mod register;
 mod request;
 mod room;
 
+pub use conflicts::{Conflicts, Pairs};
 pub use ids::{
     ClassNo, ClientNo, FolderNo, Kind, KindNo, LoginNo, ParseKindError, Rights, Serial, SerialOrder, UnknownKind,
 };
@@ -136,6 +140,9 @@ pub const MAX_LOGINS: usize = 128;
 
 /// The most folders a register may have.
 pub const MAX_FOLDERS: usize = 512;
+
+/// The most pairs of clients in conflict that a register may have.
+pub const MAX_PAIRS: usize = 256;
 
 /// The length of the longest record that a request can write: three bytes of serial, one each of login, folder, kind and answer,
 /// two of the count 511, and the 511 other folders, of which 127 take one byte and 384 take two. (Where the record's own folder

@@ -52,7 +52,7 @@ impl Granted {
 /// A request's refusals, in the order in which they are sought.
 #[derive(Clone, Copy, Debug, PartialEq, Eq, Hash)]
 pub enum Refusal {
-    /// 1 to 3: the register is not good.
+    /// 1, 2, 3 and 11: the register is not good.
     Register(RegisterError),
     /// 4: the matrix's length is not logins times folders.
     MatrixLength,
@@ -78,7 +78,7 @@ pub enum Refusal {
     },
     /// 9: the log's end lies past its buffer.
     LogEnd,
-    /// 20: the login may read a folder of the same class and of another client.
+    /// 20: the login may read a folder of a client in conflict with the asked folder's.
     Rival {
         /// The first such folder.
         folder: FolderNo,
@@ -203,9 +203,9 @@ impl Register<'_> {
     /// new end and the next serial. Any other refusal changes no byte and returns end and serial as they came.
     ///
     /// ```
-    /// use housechervil::{ClassNo, ClientNo, FolderNo, Granted, Kind, LoginNo, Register, Request, Serial};
+    /// use housechervil::{ClassNo, ClientNo, Conflicts, FolderNo, Granted, Kind, LoginNo, Register, Request, Serial};
     ///
-    /// let register = Register::new(1, &[ClassNo(1), ClassNo(1)], &[ClientNo(1), ClientNo(2)]);
+    /// let register = Register::new(1, &[ClassNo(1), ClassNo(1)], &[ClientNo(1), ClientNo(2)], &Conflicts::ByClass);
     /// let mut matrix = [0; 2];
     /// let mut log = [0; 64];
     ///
@@ -222,6 +222,7 @@ impl Register<'_> {
     #[inline]
     pub fn request(&self, matrix: &mut [u8], request: Request, log: &mut [u8], end: usize, serial: Serial) -> Reply {
         let (classes, clients) = (self.classes, self.clients);
+        let (mode, firsts, seconds) = self.conflicts.lend();
         // SAFETY: each pointer is its slice's, never null, aligned, and valid for the slice's length; class and client numbers are
         // `repr(transparent)` around `u16`. Matrix and log are lent as `&mut`, so they overlap nothing. The library has no
         // precondition on any length or number, and keeps no pointer.
@@ -232,6 +233,11 @@ impl Register<'_> {
                 classes.len(),
                 clients.as_ptr().cast(),
                 clients.len(),
+                mode,
+                firsts.as_ptr().cast(),
+                firsts.len(),
+                seconds.as_ptr().cast(),
+                seconds.len(),
                 matrix.as_mut_ptr(),
                 matrix.len(),
                 request.login.0,

@@ -4,8 +4,8 @@ use std::error::Error;
 use std::fmt;
 
 use crate::{
-    check_log, ClassNo, ClientNo, FolderNo, Granted, Kind, LogFault, LoginNo, Record, Records, Refusal, Register,
-    RegisterError, Request, Rights, Serial,
+    check_log, ClassNo, ClientNo, Conflicts, FolderNo, Granted, Kind, LogFault, LoginNo, Record, Records, Refusal,
+    Register, RegisterError, Request, Rights, Serial,
 };
 
 /// A reading room: a register that was accepted, its matrix, its log, and the log's end and next serial.
@@ -16,10 +16,10 @@ use crate::{
 /// the room goes on with an empty one: rights and serials stay, so the next log continues the one that was taken out.
 ///
 /// ```
-/// use housechervil::{check_log, ClassNo, ClientNo, FolderNo, Granted, Kind, LoginNo, Refusal, Room, Serial};
+/// use housechervil::{check_log, ClassNo, ClientNo, Conflicts, FolderNo, Granted, Kind, LoginNo, Refusal, Room, Serial};
 ///
 /// let labels = [(ClassNo(1), ClientNo(1)), (ClassNo(1), ClientNo(2))];
-/// let mut room = Room::new(1, &labels, 8, Serial(0))?; // room for one record
+/// let mut room = Room::new(1, &labels, Conflicts::ByClass, 8, Serial(0))?; // room for one record
 /// assert_eq!(room.ask(LoginNo(0), FolderNo(0), Kind::Read), Ok(Granted { taken_back: 0 }));
 /// assert_eq!(room.ask(LoginNo(0), FolderNo(1), Kind::Read), Err(Refusal::LogFull));
 ///
@@ -36,10 +36,10 @@ use crate::{
 /// makes a room of them.
 ///
 /// ```
-/// use housechervil::{ClassNo, ClientNo, FolderNo, Kind, LoginNo, Refusal, ResumeError, Room, Serial};
+/// use housechervil::{ClassNo, ClientNo, Conflicts, FolderNo, Kind, LoginNo, Refusal, ResumeError, Room, Serial};
 ///
 /// let labels = [(ClassNo(1), ClientNo(1)), (ClassNo(1), ClientNo(2))];
-/// let mut room = Room::new(1, &labels, 4096, Serial(0))?;
+/// let mut room = Room::new(1, &labels, Conflicts::ByClass, 4096, Serial(0))?;
 /// room.ask(LoginNo(0), FolderNo(0), Kind::Read)?;
 ///
 /// let parts = room.into_parts();
@@ -58,6 +58,7 @@ pub struct Room {
     logins: usize,
     classes: Vec<ClassNo>,
     clients: Vec<ClientNo>,
+    conflicts: Conflicts,
     matrix: Vec<u8>,
     log: Vec<u8>,
     end: usize,
@@ -68,7 +69,8 @@ pub struct Room {
 impl Room {
     /// A room with a blank matrix and an empty log that can hold `log_len` bytes; its first record gets the serial `first`.
     ///
-    /// `labels` has each folder's class and client, in folder order.
+    /// `labels` has each folder's class and client, in folder order; `conflicts` says which clients are in conflict. The room keeps
+    /// both throughout.
     ///
     /// # Errors
     ///
@@ -80,13 +82,15 @@ impl Room {
     pub fn new(
         logins: usize,
         labels: &[(ClassNo, ClientNo)],
+        conflicts: Conflicts,
         log_len: usize,
         first: Serial,
     ) -> Result<Room, RegisterError> {
         let (classes, clients): (Vec<_>, Vec<_>) = labels.iter().copied().unzip();
-        Register::new(logins, &classes, &clients).check()?;
+        Register::new(logins, &classes, &clients, &conflicts).check()?;
         let matrix = vec![0; logins * labels.len()];
-        Ok(Room { logins, classes, clients, matrix, log: vec![0; log_len], end: 0, serial: first, last: None })
+        let log = vec![0; log_len];
+        Ok(Room { logins, classes, clients, conflicts, matrix, log, end: 0, serial: first, last: None })
     }
 
     /// The room of these parts, which goes on where the room that they were taken from ended.
@@ -106,18 +110,18 @@ impl Room {
         parts.register().check()?;
         parts.check_matrix()?;
         let last = parts.check_log()?;
-        let Parts { logins, classes, clients, matrix, mut log, log_len, serial } = parts;
+        let Parts { logins, classes, clients, conflicts, matrix, mut log, log_len, serial } = parts;
         let end = log.len();
         log.resize(log_len, 0);
-        Ok(Room { logins, classes, clients, matrix, log, end, serial, last })
+        Ok(Room { logins, classes, clients, conflicts, matrix, log, end, serial, last })
     }
 
     /// Takes the room apart. [`resume`](Room::resume) accepts what comes out, and makes the same room of it.
     pub fn into_parts(self) -> Parts {
-        let Room { logins, classes, clients, matrix, mut log, end, serial, .. } = self;
+        let Room { logins, classes, clients, conflicts, matrix, mut log, end, serial, .. } = self;
         let log_len = log.len();
         log.truncate(end);
-        Parts { logins, classes, clients, matrix, log, log_len, serial }
+        Parts { logins, classes, clients, conflicts, matrix, log, log_len, serial }
     }
 
     /// A request of `login` for `folder`.
@@ -126,7 +130,7 @@ impl Room {
     ///
     /// [`Refusal::Login`], [`Refusal::Folder`], the wall's refusals, or [`Refusal::LogFull`]; the room keeps the others away.
     pub fn ask(&mut self, login: LoginNo, folder: FolderNo, kind: Kind) -> Result<Granted, Refusal> {
-        let register = Register::new(self.logins, &self.classes, &self.clients);
+        let register = Register::new(self.logins, &self.classes, &self.clients, &self.conflicts);
         let request = Request::new(login, folder, kind);
         let reply = register.request(&mut self.matrix, request, &mut self.log, self.end, self.serial);
         if reply.end != self.end {
@@ -151,7 +155,7 @@ impl Room {
 
     /// The register.
     pub fn register(&self) -> Register<'_> {
-        Register::new(self.logins, &self.classes, &self.clients)
+        Register::new(self.logins, &self.classes, &self.clients, &self.conflicts)
     }
 
     /// The matrix: a cell for each login and folder, login by login.
@@ -201,6 +205,8 @@ pub struct Parts {
     pub classes: Vec<ClassNo>,
     /// Each folder's client, in the same order.
     pub clients: Vec<ClientNo>,
+    /// Which clients are in conflict.
+    pub conflicts: Conflicts,
     /// The matrix: a cell for each login and folder, login by login.
     pub matrix: Vec<u8>,
     /// The log's bytes, up to its end.
@@ -213,7 +219,7 @@ pub struct Parts {
 
 impl Parts {
     fn register(&self) -> Register<'_> {
-        Register::new(self.logins, &self.classes, &self.clients)
+        Register::new(self.logins, &self.classes, &self.clients, &self.conflicts)
     }
 
     /// The matrix, of a register that was accepted.
@@ -249,7 +255,7 @@ impl Parts {
 /// Why no room can be made of its parts, in the order in which the faults are sought.
 #[derive(Clone, Copy, Debug, PartialEq, Eq, Hash)]
 pub enum ResumeError {
-    /// 1 to 3: the register is not good.
+    /// 1, 2, 3 and 11: the register is not good.
     Register(RegisterError),
     /// 4: the matrix's length is not logins times folders.
     MatrixLength,

@@ -83,6 +83,11 @@ extern "C" {
         classes_len: usize,
         clients: *const u16,
         clients_len: usize,
+        mode: u8,
+        firsts: *const u16,
+        firsts_len: usize,
+        seconds: *const u16,
+        seconds_len: usize,
     ) -> hc_register_answer;
 
     pub fn hc_request(
@@ -91,6 +96,11 @@ extern "C" {
         classes_len: usize,
         clients: *const u16,
         clients_len: usize,
+        mode: u8,
+        firsts: *const u16,
+        firsts_len: usize,
+        seconds: *const u16,
+        seconds_len: usize,
         matrix: *mut u8,
         matrix_len: usize,
         login: u16,

@@ -142,7 +142,7 @@ impl Desk {
     }
 
     fn house(&self) -> House<'_> {
-        House { logins: usize::from(self.logins.unwrap()), classes: &self.classes, clients: &self.clients }
+        House::by_class(usize::from(self.logins.unwrap()), &self.classes, &self.clients)
     }
 
     fn check(&mut self) {

@@ -2,21 +2,40 @@
 
 use housechervil::{
     check_log, folder_name, pack, pack_into, packed_len, read_number, read_record, unpack, unpack_into, ClassNo,
-    ClientNo, FolderNo, Kind, KindNo, LogFault, LoginNo, PackError, Records, Refusal, Register, RegisterError, Request,
-    Room, Serial, UnpackError,
+    ClientNo, Conflicts, FolderNo, Granted, Kind, KindNo, LogFault, LoginNo, PackError, Pairs, Records, Refusal,
+    Register, RegisterError, Request, Room, Serial, UnpackError,
 };
+
+const BY_CLASS: Conflicts = Conflicts::ByClass;
 
 #[test]
 fn empty_register() {
-    assert_eq!(Register::new(1, &[], &[]).check(), Err(RegisterError::Sizes));
-    assert_eq!(Register::new(0, &[], &[]).check(), Err(RegisterError::Sizes));
-    assert_eq!(Register::new(1, &[], &[ClientNo(1)]).check(), Err(RegisterError::Sizes));
-    assert_eq!(Register::new(1, &[ClassNo(1)], &[]).check(), Err(RegisterError::Sizes));
-    assert_eq!(Register::new(0, &[ClassNo(1)], &[ClientNo(1)]).check(), Err(RegisterError::Sizes));
+    for conflicts in [BY_CLASS, Conflicts::ByPair(Pairs::default())] {
+        let check = |logins, classes, clients| Register::new(logins, classes, clients, &conflicts).check();
+        assert_eq!(check(1, &[], &[]), Err(RegisterError::Sizes));
+        assert_eq!(check(0, &[], &[]), Err(RegisterError::Sizes));
+        assert_eq!(check(1, &[], &[ClientNo(1)]), Err(RegisterError::Sizes));
+        assert_eq!(check(1, &[ClassNo(1)], &[]), Err(RegisterError::Sizes));
+        assert_eq!(check(0, &[ClassNo(1)], &[ClientNo(1)]), Err(RegisterError::Sizes));
+        assert_eq!(check(1, &[ClassNo(1)], &[ClientNo(1)]), Ok(()));
+        assert!(Room::new(1, &[], conflicts.clone(), 10, Serial(0)).is_err());
+        assert!(Room::new(0, &[(ClassNo(1), ClientNo(1))], conflicts, 10, Serial(0)).is_err());
+    }
     assert_eq!(ClassNo::from_slice(&[]), []);
     assert_eq!(ClientNo::from_slice(&[]), []);
-    assert!(Room::new(1, &[], 10, Serial(0)).is_err());
-    assert!(Room::new(0, &[(ClassNo(1), ClientNo(1))], 10, Serial(0)).is_err());
+}
+
+/// Without pairs no two clients are in conflict.
+#[test]
+fn empty_pairs() {
+    let none = Pairs::default();
+    assert_eq!((none.len(), none.is_empty(), none.iter().next()), (0, true, None));
+    assert_eq!(none, Pairs::from([]));
+    let labels = [1, 2].map(|client| (ClassNo(1), ClientNo(client)));
+    let mut room = Room::new(1, &labels, Conflicts::ByPair(none), 100, Serial(0)).unwrap();
+    for folder in [0, 1].map(FolderNo) {
+        assert_eq!(room.ask(LoginNo(0), folder, Kind::Read), Ok(Granted { taken_back: 0 }));
+    }
 }
 
 #[test]
@@ -28,13 +47,13 @@ fn empty_buffers_of_a_request() {
     };
 
     // Nothing at all.
-    let nobody = Register::new(0, &[], &[]);
+    let nobody = Register::new(0, &[], &[], &BY_CLASS);
     unmoved(nobody.request(&mut [], request, &mut [], 0, Serial(9)), 0, RegisterError::Sizes.into());
     unmoved(nobody.request(&mut [], request, &mut [], usize::MAX, Serial(9)), usize::MAX, RegisterError::Sizes.into());
 
     // A good register with an empty matrix, with an empty log, with both.
     let (classes, clients) = ([ClassNo(1)], [ClientNo(1)]);
-    let one = Register::new(1, &classes, &clients);
+    let one = Register::new(1, &classes, &clients, &BY_CLASS);
     let mut log = [7; 32];
     unmoved(one.request(&mut [], request, &mut log, 0, Serial(9)), 0, Refusal::MatrixLength);
     unmoved(one.request(&mut [], request, &mut [], 0, Serial(9)), 0, Refusal::MatrixLength);
@@ -57,7 +76,7 @@ fn empty_buffers_of_a_request() {
 
 #[test]
 fn empty_room_for_a_log() {
-    let mut room = Room::new(1, &[(ClassNo(1), ClientNo(1))], 0, Serial(5)).unwrap();
+    let mut room = Room::new(1, &[(ClassNo(1), ClientNo(1))], BY_CLASS, 0, Serial(5)).unwrap();
     assert_eq!(room.ask(LoginNo(0), FolderNo(0), Kind::Read), Err(Refusal::LogFull));
     assert_eq!((room.log(), room.log_left(), room.next_serial()), (&[][..], 0, Serial(5)));
     assert!(room.records().next().is_none());

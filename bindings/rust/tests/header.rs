@@ -1,10 +1,11 @@
-//! What the crate shares with the C header: the version, which is the changelog's newest too, the limits, and the numbers of kinds and answers.
+//! What the crate shares with the C header: the version, which is the changelog's newest too, the limits, and the numbers of kinds, modes
+//! and answers.
 
 use std::fs::read_to_string;
 
 use housechervil::{
     FolderNo, Granted, Kind, KindNo, LogFault, LoginNo, PackError, Refusal, RegisterError, Rights, UnpackError,
-    Verdict, MAX_FOLDERS, MAX_LOGINS, MAX_RECORD,
+    Verdict, MAX_FOLDERS, MAX_LOGINS, MAX_PAIRS, MAX_RECORD,
 };
 
 const VERSION: &str = env!("CARGO_PKG_VERSION");
@@ -63,17 +64,21 @@ fn limits() {
     assert_eq!(header.number("HC_LOGINS_MAX"), MAX_LOGINS);
     assert_eq!(header.number("HC_FOLDERS_MAX"), MAX_FOLDERS);
     assert_eq!(header.number("HC_MATRIX_MAX"), MAX_LOGINS * MAX_FOLDERS);
+    assert_eq!(header.number("HC_PAIRS_MAX"), MAX_PAIRS);
     assert_eq!(header.number("HC_RECORD_MAX"), MAX_RECORD);
 }
 
 #[test]
-fn kinds_and_rights() {
+fn kinds_modes_and_rights() {
     let right = |read, write| u16::from(Rights { read, write }.cell());
     Header::read().numbers([
         ("HC_READ", Kind::Read.number()),
         ("HC_CAREFUL_READ", Kind::CarefulRead.number()),
         ("HC_WRITE", Kind::Write.number()),
         ("HC_READ_AND_WRITE", Kind::ReadAndWrite.number()),
+        // In the crate a mode is a case of an enum.
+        ("HC_BY_CLASSES", 0),
+        ("HC_BY_PAIRS", 1),
         ("HC_MAY_READ", right(true, false)),
         ("HC_MAY_WRITE", right(false, true)),
     ]);
@@ -88,6 +93,7 @@ fn answers_of_register_and_request() {
         ("HC_REGISTER_SIZES", RegisterError::Sizes.number()),
         ("HC_REGISTER_LONE_ZERO", RegisterError::LoneZero { folder }.number()),
         ("HC_REGISTER_TWO_CLASSES", RegisterError::TwoClasses { folder, earlier: folder }.number()),
+        ("HC_BAD_PAIRS", RegisterError::BadPairs.number()),
         ("HC_MATRIX_LENGTH", Refusal::MatrixLength.number()),
         ("HC_NO_LOGIN", Refusal::Login { asked: LoginNo(0) }.number()),
         ("HC_NO_FOLDER", Refusal::Folder { asked: folder }.number()),

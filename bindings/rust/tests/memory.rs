@@ -9,7 +9,7 @@ use std::os::raw::{c_int, c_void};
 use std::ptr::null_mut;
 
 use reference::{Ask, House};
-use support::{cells, sys, Owned, Random};
+use support::{cells, raw_check, raw_request, Owned, Random};
 
 extern "C" {
     fn mmap(at: *mut c_void, len: usize, protection: c_int, flags: c_int, file: c_int, offset: i64) -> *mut c_void;
@@ -80,13 +80,20 @@ const SIDES: [Side; 2] = [Side::Start, Side::End];
 #[test]
 fn requests() {
     let mut random = Random::new(60);
-    let mut fences: [Fenced; 4] = [Fenced::new(2048), Fenced::new(2048), Fenced::new(65_536), Fenced::new(65_536)];
-    for round in 0..6_000 {
+    let mut labels = [Fenced::new(2048), Fenced::new(2048)];
+    let mut pairs = [Fenced::new(140_000), Fenced::new(140_000)];
+    let mut buffers = [Fenced::new(65_536), Fenced::new(65_536)];
+    for round in 0..9_000 {
         let (logins, folders) = match round % 10 {
             0 => (random.pick(&[1, 128]), random.pick(&[511, 512, 512, 257])),
             _ => (random.range(1, 5), random.range(1, 70)),
         };
-        let mut house = Owned::good(&mut random, logins, folders, 5);
+        let house = Owned::good(&mut random, logins, folders, 5);
+        let mut house = match round % 3 {
+            0 => house,
+            1 => house.with_idle_pairs(&mut random),
+            _ => house.with_pairs(&mut random),
+        };
         if random.once_in(5) {
             house.damage(&mut random);
         }
@@ -99,35 +106,22 @@ fn requests() {
         };
         let end = random.below(log_content.len() + 1);
         for side in SIDES {
-            let [one, two, three, four] = &mut fences;
-            let (classes, clients) = (one.hold(&house.classes, side), two.hold(&house.clients, side));
-            let (matrix, log) = (three.hold(&matrix_content, side), four.hold(&log_content, side));
+            let [one, two] = &mut labels;
+            let (classes, clients) = (&*one.hold(&house.classes, side), &*two.hold(&house.clients, side));
+            let [one, two] = &mut pairs;
+            let (firsts, seconds) = (&*one.hold(&house.firsts, side), &*two.hold(&house.seconds, side));
+            let [one, two] = &mut buffers;
+            let (matrix, log) = (one.hold(&matrix_content, side), two.hold(&log_content, side));
             let (mut expected_matrix, mut expected_log) = (matrix_content.clone(), log_content.clone());
             let expected = reference::request(&house.lend(), &mut expected_matrix, ask, &mut expected_log, end, 16_383);
-            // SAFETY: pointers and lengths are of slices of four mappings.
-            let reply = unsafe {
-                sys::hc_request(
-                    house.logins,
-                    classes.as_ptr(),
-                    classes.len(),
-                    clients.as_ptr(),
-                    clients.len(),
-                    matrix.as_mut_ptr(),
-                    matrix.len(),
-                    ask.login,
-                    ask.folder,
-                    ask.kind,
-                    log.as_mut_ptr(),
-                    log.len(),
-                    end,
-                    16_383,
-                )
-            };
+            let lent = House { logins: house.logins, classes, clients, mode: house.mode, firsts, seconds };
+            let reply = raw_request(&lent, matrix, ask, log, end, 16_383);
             assert_eq!(reply.number, expected.answer.map_or_else(|refusal| refusal.numbers()[0], |_| 0));
             assert_eq!((reply.end, reply.serial), (expected.end, expected.serial));
             assert!(matrix == expected_matrix && log == expected_log);
-            let house = House { logins: house.logins, classes, clients };
-            support::same_check(&house).ok();
+            let numbers = reference::check(&house.lend()).map_or_else(|refusal| refusal.numbers(), |()| [0; 3]);
+            let answer = raw_check(&lent);
+            assert_eq!([answer.number, answer.first, answer.second], numbers);
         }
     }
 }

@@ -8,7 +8,7 @@ use std::arch::global_asm;
 use reference::Age;
 use support::{same_number, sys, Random, Tally};
 
-use housechervil::{ClassNo, ClientNo, FolderNo, Kind, LoginNo, Register, Request, Serial, SerialOrder};
+use housechervil::{ClassNo, ClientNo, Conflicts, FolderNo, Kind, LoginNo, Register, Request, Serial, SerialOrder};
 
 // Another implementation of the same coding: the assembler's. It writes the numbers 0 to 65,535 one after the other as LEB128.
 global_asm!(
@@ -57,7 +57,7 @@ fn leb128(mut number: u64) -> Vec<u8> {
 
 /// The groups that the library writes for a number: those of the serial, at the start of a record.
 fn written(number: u16) -> Vec<u8> {
-    let register = Register::new(1, &[ClassNo(1)], &[ClientNo(1)]);
+    let register = Register::new(1, &[ClassNo(1)], &[ClientNo(1)], &Conflicts::ByClass);
     let mut log = [0; 8];
     let request = Request::new(LoginNo(0), FolderNo(0), Kind::CarefulRead);
     let reply = register.request(&mut [0], request, &mut log, 0, Serial(number));

@@ -1,9 +1,18 @@
-//! The register check, held against the reference.
+//! The register check, held against the reference. What is particular to pairs is in `pairs.rs`.
 
 mod reference;
 mod support;
 
 use support::{same_check, Owned, Random, Tally};
+
+/// The same register in class mode, in class mode with pairs that nothing may look at, or by pairs.
+fn in_some_mode(random: &mut Random, house: Owned) -> Owned {
+    match random.below(3) {
+        0 => house,
+        1 => house.with_idle_pairs(random),
+        _ => house.with_pairs(random),
+    }
+}
 
 fn number(house: &Owned) -> u16 {
     same_check(&house.lend()).map_or_else(|refusal| refusal.numbers()[0], |()| 0)
@@ -35,7 +44,8 @@ fn bounds() {
     for classes in lengths {
         for clients in lengths {
             for logins in logins {
-                tally.add(number(&Owned { logins, classes: list(classes), clients: list(clients) }));
+                let house = Owned { classes: list(classes), clients: list(clients), ..Owned::new(logins, &[]) };
+                tally.add(number(&house));
             }
         }
     }
@@ -55,13 +65,14 @@ fn random_registers() {
             _ => random.range(1, 24),
         };
         let clients = random.pick(&[1, 2, 3, 5, 64, 600]);
-        let mut house = Owned::good(&mut random, logins, folders, clients);
+        let house = Owned::good(&mut random, logins, folders, clients);
+        let mut house = in_some_mode(&mut random, house);
         for _ in 0..random.below(4) {
             house.damage(&mut random);
         }
         tally.add(number(&house));
     }
-    tally.met(&[0, 1, 2, 3], 2_000);
+    tally.met(&[0, 1, 2, 3, 11], 2_000);
 }
 
 /// Labels without any plan.

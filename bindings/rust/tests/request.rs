@@ -1,4 +1,5 @@
-//! The request, held against the reference: answers, matrix, log, end and serial, buffers compared whole with guard bytes on both sides.
+//! The request, held against the reference: answers, matrix, log, end and serial, buffers compared whole with guard bytes on both sides;
+//! by classes and by pairs. What is particular to pairs is in `pairs.rs`.
 
 mod reference;
 mod support;
@@ -6,10 +7,20 @@ mod support;
 use reference::{Ask, Reply};
 use support::{cells, same_request, serial, Guarded, Owned, Random, Tally};
 
-const ALL: [u16; 14] = [0, 1, 2, 3, 4, 5, 6, 7, 8, 9, 20, 21, 22, 30];
+const ALL: [u16; 15] = [0, 1, 2, 3, 4, 5, 6, 7, 8, 9, 11, 20, 21, 22, 30];
 
 fn number(reply: &Reply) -> u16 {
     reply.answer.map_or_else(|refusal| refusal.numbers()[0], |_| 0)
+}
+
+/// A good register in class mode, in class mode with pairs that nothing may look at, or by pairs.
+fn good(random: &mut Random, logins: usize, folders: usize, clients: usize) -> Owned {
+    let house = Owned::good(random, logins, folders, clients);
+    match random.below(4) {
+        0 => house,
+        1 => house.with_idle_pairs(random),
+        _ => house.with_pairs(random),
+    }
 }
 
 /// A request for anything, mostly in range.
@@ -79,10 +90,10 @@ fn one_case(random: &mut Random, house: &Owned) -> Reply {
 fn random_requests() {
     let mut random = Random::new(10);
     let mut tally = Tally::default();
-    for _ in 0..200_000 {
+    for _ in 0..300_000 {
         let (logins, folders) = (random.range(1, 4), random.range(1, 10));
         let clients = random.pick(&[1, 2, 3, 5]);
-        let mut house = Owned::good(&mut random, logins, folders, clients);
+        let mut house = good(&mut random, logins, folders, clients);
         if random.once_in(8) {
             house.damage(&mut random);
         }
@@ -99,7 +110,7 @@ fn large_houses() {
     for _ in 0..2_500 {
         let (logins, folders) = (random.pick(&[1, 2, 127, 128]), random.pick(&[1, 127, 128, 129, 511, 512]));
         let clients = random.pick(&[2, 3, 64, 600]);
-        let mut house = Owned::good(&mut random, logins, folders, clients);
+        let mut house = good(&mut random, logins, folders, clients);
         if random.once_in(8) {
             house.damage(&mut random);
         }
@@ -139,7 +150,7 @@ fn every_room() {
     for round in 0..4_000 {
         let folders = if round % 100 == 0 { random.range(100, 512) } else { random.range(2, 12) };
         let clients = random.pick(&[2, 3, 5]);
-        let house = Owned::good(&mut random, 2, folders, clients);
+        let house = good(&mut random, 2, folders, clients);
         let content = cells(&mut random, 2 * folders);
         let matrix = Guarded::new(&mut random, &content);
         let ask = Ask {
@@ -240,7 +251,7 @@ fn long_runs() {
             _ => (random.range(1, 12), random.range(1, 40), 1_500),
         };
         let clients = random.pick(&[2, 5, 20, 64]);
-        let house = Owned::good(&mut random, logins, folders, clients);
+        let house = good(&mut random, logins, folders, clients);
         let mut matrix = Guarded::new(&mut random, &vec![0; logins * folders]);
         let content = random.bytes(if round % 2 == 0 { 65_536 } else { 6_000 });
         let mut log = Guarded::new(&mut random, &content);

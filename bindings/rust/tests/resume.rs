@@ -7,16 +7,24 @@ mod support;
 use std::error::Error;
 
 use housechervil::{
-    check_log, ClassNo, ClientNo, FolderNo, Granted, Kind, LogFault, LoginNo, Parts, Refusal, RegisterError,
-    ResumeError, Rights, Room, Serial, MAX_RECORD,
+    check_log, ClassNo, ClientNo, Conflicts, FolderNo, Granted, Kind, LogFault, LoginNo, Pairs, Parts, Refusal,
+    RegisterError, ResumeError, Rights, Room, Serial, MAX_RECORD,
 };
-use reference::House;
-use support::{Owned, Random, Tally};
+use support::{conflicts, Owned, Random, Tally};
 
 fn new_room(house: &Owned, log_len: usize, first: Serial) -> Room {
     let labels: Vec<_> =
         house.classes.iter().zip(&house.clients).map(|(&class, &client)| (ClassNo(class), ClientNo(client))).collect();
-    Room::new(house.logins, &labels, log_len, first).unwrap()
+    Room::new(house.logins, &labels, conflicts(&house.lend()).unwrap(), log_len, first).unwrap()
+}
+
+/// A good register, by class or by pair.
+fn good(random: &mut Random, logins: usize, folders: usize, clients: usize) -> Owned {
+    let house = Owned::good(random, logins, folders, clients);
+    match random.below(2) {
+        0 => house,
+        _ => house.with_pairs(random),
+    }
 }
 
 /// A request for anything, mostly in range.
@@ -64,7 +72,7 @@ fn an_interrupted_room_goes_on() {
             _ => (random.range(1, 6), random.range(1, 30), random.pick(&[37, 38, 60, 500])),
         };
         let clients = random.pick(&[2, 5, 20]);
-        let house = Owned::good(&mut random, logins, folders, clients);
+        let house = good(&mut random, logins, folders, clients);
         let first = Serial(random.pick(&[0, 100, 16_300, 65_300, 65_535]));
         let mut steady = new_room(&house, 300 * MAX_RECORD, first);
         let mut other = new_room(&house, log_len, first);
@@ -100,22 +108,22 @@ fn an_interrupted_room_goes_on() {
 
 /// What `resume` must answer: by the reference, and by the serial after the last record's.
 fn judged(parts: &Parts) -> Result<(), ResumeError> {
-    let classes: Vec<u16> = parts.classes.iter().map(|class| class.0).collect();
-    let clients: Vec<u16> = parts.clients.iter().map(|client| client.0).collect();
-    let house = House { logins: parts.logins, classes: &classes, clients: &clients };
+    let house = owned(parts);
+    let folders = house.folders();
     let folder = |folder: usize| FolderNo(folder as u16);
-    reference::check(&house).map_err(|refusal| match refusal {
+    reference::check(&house.lend()).map_err(|refusal| match refusal {
         reference::Refusal::Sizes => RegisterError::Sizes,
         reference::Refusal::LoneZero(at) => RegisterError::LoneZero { folder: folder(at) },
         reference::Refusal::TwoClasses(at, earlier) => {
             RegisterError::TwoClasses { folder: folder(at), earlier: folder(earlier) }
         }
+        reference::Refusal::BadPairs => RegisterError::BadPairs,
         other => panic!("{other:?} is no answer of the register check"),
     })?;
-    if parts.matrix.len() != parts.logins * classes.len() {
+    if parts.matrix.len() != parts.logins * folders {
         return Err(ResumeError::MatrixLength);
     }
-    for (login, row) in parts.matrix.chunks(classes.len()).enumerate() {
+    for (login, row) in parts.matrix.chunks(folders).enumerate() {
         if let Some(at) = row.iter().position(|&cell| cell > 3) {
             return Err(ResumeError::Cell { login: LoginNo(login as u16), folder: folder(at) });
         }
@@ -142,14 +150,29 @@ fn judged(parts: &Parts) -> Result<(), ResumeError> {
     }
 }
 
-/// Damages the register of parts as a register is damaged elsewhere.
-fn damage_register(random: &mut Random, parts: &mut Parts) {
-    let mut house = Owned {
+/// The register of parts.
+fn owned(parts: &Parts) -> Owned {
+    let house = Owned {
         logins: parts.logins,
         classes: parts.classes.iter().map(|class| class.0).collect(),
         clients: parts.clients.iter().map(|client| client.0).collect(),
+        ..Owned::new(0, &[])
     };
+    match &parts.conflicts {
+        Conflicts::ByClass => house,
+        Conflicts::ByPair(pairs) => {
+            house.paired(1, &pairs.iter().map(|(first, second)| (first.0, second.0)).collect::<Vec<_>>())
+        }
+    }
+}
+
+/// Damages the register of parts as a register is damaged elsewhere. Pairs of unequal number are none that parts can have.
+fn damage_register(random: &mut Random, parts: &mut Parts) {
+    let mut house = owned(parts);
     house.damage(random);
+    if let Some(damaged) = conflicts(&house.lend()) {
+        parts.conflicts = damaged;
+    }
     parts.logins = house.logins;
     parts.classes = house.classes.into_iter().map(ClassNo).collect();
     parts.clients = house.clients.into_iter().map(ClientNo).collect();
@@ -200,7 +223,7 @@ fn damaged_parts() {
     for _ in 0..30_000 {
         let (logins, folders) = (random.range(1, 4), random.range(1, 9));
         let clients = random.pick(&[2, 3, 5]);
-        let house = Owned::good(&mut random, logins, folders, clients);
+        let house = good(&mut random, logins, folders, clients);
         let first = Serial(support::serial(&mut random));
         let mut room = new_room(&house, 400, first);
         for _ in 0..random.below(12) {
@@ -225,7 +248,7 @@ fn damaged_parts() {
             }
         }
     }
-    tally.met(&[0, 1, 2, 3, 4, 8, 9, 51, 52, 53, 54, 55], 50);
+    tally.met(&[0, 1, 2, 3, 4, 8, 9, 11, 51, 52, 53, 54, 55], 50);
 }
 
 /// Parts by hand, as they might come from a file: a read right, its record, and a log with room for one more.
@@ -234,6 +257,7 @@ fn parts() -> Parts {
         logins: 2,
         classes: vec![ClassNo(1), ClassNo(1)],
         clients: vec![ClientNo(1), ClientNo(2)],
+        conflicts: Conflicts::ByClass,
         matrix: vec![0, 0, 1, 0],
         log: vec![127, 1, 0, 1, 0, 0],
         log_len: 14,
@@ -252,6 +276,26 @@ fn parts_by_hand() {
     assert_eq!(room.take_log().len(), 14);
     assert_eq!(room.ask(LoginNo(0), FolderNo(1), Kind::Read), Ok(Granted { taken_back: 0 }));
     assert_eq!(room.into_parts().serial, Serial(130));
+}
+
+/// The same parts by pairs: the mode is kept, and the pairs alone decide.
+#[test]
+fn parts_by_pairs() {
+    let by = |pairs: Pairs| Parts { conflicts: Conflicts::ByPair(pairs), ..parts() };
+    let asked = |parts: Parts| {
+        let mut room = Room::resume(parts.clone()).unwrap();
+        assert_eq!(room.register().conflicts, &parts.conflicts);
+        let answer = room.ask(LoginNo(1), FolderNo(1), Kind::Read);
+        assert_eq!(room.into_parts().conflicts, parts.conflicts);
+        answer
+    };
+    assert_eq!(asked(by(Pairs::default())), Ok(Granted { taken_back: 0 }));
+    assert_eq!(asked(by([(ClientNo(2), ClientNo(3))].into())), Ok(Granted { taken_back: 0 }));
+    let rival = Err(Refusal::Rival { folder: FolderNo(0) });
+    assert_eq!(asked(by([(ClientNo(1), ClientNo(2))].into())), rival);
+    assert_eq!(asked(by([(ClientNo(2), ClientNo(1))].into())), rival);
+    let classes = vec![ClassNo(1), ClassNo(2)];
+    assert_eq!(asked(Parts { classes, ..by([(ClientNo(2), ClientNo(1))].into()) }), rival);
 }
 
 /// An empty log goes on with any serial, and a log may be as long as it can be.
@@ -289,6 +333,11 @@ fn each_fault() {
         3,
         &two.to_string(),
     );
+    let pairs = |pair: (u16, u16)| Conflicts::ByPair([(ClientNo(pair.0), ClientNo(pair.1))].into());
+    let bad = RegisterError::BadPairs;
+    case(Parts { conflicts: pairs((1, 0)), matrix: vec![9], ..parts() }, bad.into(), 11, &bad.to_string());
+    case(Parts { conflicts: pairs((2, 2)), log_len: 0, ..parts() }, bad.into(), 11, &bad.to_string());
+    case(Parts { conflicts: pairs((2, 2)), logins: 0, ..parts() }, sizes.into(), 1, &sizes.to_string());
     let words = "the matrix's length is not logins times folders";
     case(Parts { matrix: vec![9; 3], ..parts() }, ResumeError::MatrixLength, 4, words);
     case(
@@ -330,6 +379,6 @@ fn the_matrix_is_not_held_against_the_log() {
 fn logs_that_cannot_be() {
     let beyond = isize::MAX as usize + 1;
     let labels = [(ClassNo(1), ClientNo(1))];
-    assert!(std::panic::catch_unwind(|| Room::new(1, &labels, beyond, Serial(0))).is_err());
+    assert!(std::panic::catch_unwind(|| Room::new(1, &labels, Conflicts::ByClass, beyond, Serial(0))).is_err());
     assert!(std::panic::catch_unwind(|| Room::resume(Parts { log_len: beyond, ..parts() })).is_err());
 }

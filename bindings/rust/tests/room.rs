@@ -3,22 +3,23 @@
 use std::error::Error;
 
 use housechervil::{
-    ClassNo, ClientNo, FolderNo, Granted, Kind, KindNo, LogFault, LoginNo, PackError, ParseKindError, Refusal,
-    RegisterError, Rights, Room, Serial, UnknownKind, UnpackError, Verdict,
+    ClassNo, ClientNo, Conflicts, FolderNo, Granted, Kind, KindNo, LogFault, LoginNo, PackError, Pairs, ParseKindError,
+    Refusal, RegisterError, Rights, Room, Serial, UnknownKind, UnpackError, Verdict, MAX_PAIRS,
 };
 
 const FOLDER: FolderNo = FolderNo(7);
 
-/// Every answer has document 01's number, and words of its own.
+/// Every answer has the rules' number, and words of its own.
 #[test]
 fn numbers_and_words() {
     let register = [
         RegisterError::Sizes,
         RegisterError::LoneZero { folder: FOLDER },
         RegisterError::TwoClasses { folder: FOLDER, earlier: FOLDER },
+        RegisterError::BadPairs,
     ];
-    assert_eq!(register.map(RegisterError::number), [1, 2, 3]);
-    assert_eq!(register.map(RegisterError::folder), [None, Some(FOLDER), Some(FOLDER)]);
+    assert_eq!(register.map(RegisterError::number), [1, 2, 3, 11]);
+    assert_eq!(register.map(RegisterError::folder), [None, Some(FOLDER), Some(FOLDER), None]);
 
     let refusals = [
         Refusal::MatrixLength,
@@ -134,7 +135,7 @@ fn kinds_parsed_and_printed() {
 #[test]
 fn a_room() {
     let labels = [(1, 1), (1, 2), (2, 3)].map(|(class, client)| (ClassNo(class), ClientNo(client)));
-    let mut room = Room::new(2, &labels, 21, Serial(65_535)).unwrap();
+    let mut room = Room::new(2, &labels, Conflicts::ByClass, 21, Serial(65_535)).unwrap();
     let (ann, ben) = (LoginNo(0), LoginNo(1));
     assert!(room.last_record().is_none());
 
@@ -182,13 +183,48 @@ fn a_room() {
 #[test]
 fn bad_registers() {
     let label = |class, client| (ClassNo(class), ClientNo(client));
-    let error = |logins, labels: &[_]| Room::new(logins, labels, 100, Serial(0)).unwrap_err();
+    let error = |logins, labels: &[_]| Room::new(logins, labels, Conflicts::ByClass, 100, Serial(0)).unwrap_err();
     assert_eq!(error(129, &[label(1, 1)]), RegisterError::Sizes);
     assert_eq!(error(usize::MAX, &[label(1, 1)]), RegisterError::Sizes);
     assert_eq!(error(1, &vec![label(1, 1); 513]), RegisterError::Sizes);
     assert_eq!(error(1, &[label(1, 1), label(0, 1)]), RegisterError::LoneZero { folder: FolderNo(1) });
     let two = RegisterError::TwoClasses { folder: FolderNo(1), earlier: FolderNo(0) };
     assert_eq!(error(1, &[label(1, 4), label(2, 4)]), two);
+}
+
+fn pair(first: u16, second: u16) -> (ClientNo, ClientNo) {
+    (ClientNo(first), ClientNo(second))
+}
+
+/// Pairs are made from arrays, slices and iterators, are kept in their order, and tell a room apart from another.
+#[test]
+fn pairs() {
+    let listed = [pair(3, 1), pair(1, 3), pair(3, 1), pair(0, 65_535)];
+    let pairs = Pairs::from(listed);
+    assert_eq!(pairs, listed.into_iter().collect());
+    assert_eq!(pairs, Pairs::from(&listed[..]));
+    assert_eq!((pairs.len(), pairs.iter().len(), pairs.is_empty()), (4, 4, false));
+    assert_eq!(pairs.iter().collect::<Vec<_>>(), listed);
+    assert_ne!(pairs, listed.into_iter().rev().collect());
+    assert_ne!(Conflicts::ByPair(Pairs::default()), Conflicts::ByClass);
+}
+
+/// Bad pairs never make a room, and 256 good ones do.
+#[test]
+fn bad_pairs() {
+    let labels = [(ClassNo(1), ClientNo(1)), (ClassNo(2), ClientNo(2))];
+    let room = |pairs: Pairs| Room::new(1, &labels, Conflicts::ByPair(pairs), 100, Serial(0));
+    for bad in [pair(0, 1), pair(1, 0), pair(0, 0), pair(2, 2)] {
+        let error = room([pair(1, 2), bad].into()).unwrap_err();
+        assert_eq!((error, error.number()), (RegisterError::BadPairs, 11));
+    }
+    assert_eq!(room(vec![pair(1, 2); MAX_PAIRS + 1].as_slice().into()).unwrap_err(), RegisterError::BadPairs);
+
+    let mut room = room(vec![pair(1, 2); MAX_PAIRS].as_slice().into()).unwrap();
+    assert_eq!(room.register().conflicts, &Conflicts::ByPair(vec![pair(1, 2); MAX_PAIRS].as_slice().into()));
+    assert_eq!(room.register().check(), Ok(()));
+    assert_eq!(room.ask(LoginNo(0), FolderNo(0), Kind::Read), Ok(Granted { taken_back: 0 }));
+    assert_eq!(room.ask(LoginNo(0), FolderNo(1), Kind::Read), Err(Refusal::Rival { folder: FolderNo(0) }));
 }
 
 /// All of it is plain data: it can be handed to and shared between threads.
@@ -206,7 +242,7 @@ fn threads() {
         let rooms: Vec<_> = (0..4)
             .map(|_| {
                 scope.spawn(|| {
-                    let mut room = Room::new(1, &labels, 65_536, Serial(0)).unwrap();
+                    let mut room = Room::new(1, &labels, Conflicts::ByClass, 65_536, Serial(0)).unwrap();
                     for _ in 0..5_000 {
                         let _ = room.ask(LoginNo(0), FolderNo(0), Kind::Read);
                         let _ = room.ask(LoginNo(0), FolderNo(1), Kind::Read);

@@ -15,24 +15,36 @@ impl Random {
 }
 
 /// A register and what is asked of it.
+#[derive(Clone)]
 pub struct Input {
     pub logins: usize,
     pub classes: Vec<u16>,
     pub clients: Vec<u16>,
+    pub mode: u8,
+    pub firsts: Vec<u16>,
+    pub seconds: Vec<u16>,
     pub matrix: Vec<u8>,
     pub asks: Vec<Ask>,
 }
 
 impl Input {
-    /// A house whose folder f belongs to client `client(f)`; eight clients share a class.
+    /// A house by classes whose folder f belongs to client `client(f)`; eight clients share a class.
     pub fn new(logins: usize, folders: usize, client: impl Fn(usize) -> usize) -> Input {
         let clients: Vec<u16> = (0..folders).map(|folder| client(folder) as u16).collect();
         let classes = clients.iter().map(|&client| if client == 0 { 0 } else { 1 + client / 8 }).collect();
-        Input { logins, classes, clients, matrix: vec![0; logins * folders], asks: Vec::new() }
+        let (firsts, seconds, asks) = (Vec::new(), Vec::new(), Vec::new());
+        Input { logins, classes, clients, mode: 0, firsts, seconds, matrix: vec![0; logins * folders], asks }
     }
 
     pub fn house(&self) -> House<'_> {
-        House { logins: self.logins, classes: &self.classes, clients: &self.clients }
+        House {
+            logins: self.logins,
+            classes: &self.classes,
+            clients: &self.clients,
+            mode: self.mode,
+            firsts: &self.firsts,
+            seconds: &self.seconds,
+        }
     }
 
     pub fn folders(&self) -> usize {
@@ -161,6 +173,13 @@ pub fn cells() -> Vec<u8> {
     (0..65_536).map(|_| random.below(4) as u8).collect()
 }
 
+/// Sizes of texts, and the folders that are named in them: the first, one in the midst and the last.
+pub const NAMED: [(&str, usize, [u16; 3]); 3] = [
+    ("64 KiB, 512 lines", 65_536, [0, 255, 511]),
+    ("8 KiB, 512 lines", 8_192, [0, 255, 511]),
+    ("128 bytes, 8 lines", 128, [0, 3, 7]),
+];
+
 /// A client's text of folder names and the house's.
 pub struct Texts {
     pub client: Vec<u8>,
@@ -188,7 +207,8 @@ fn text(random: &mut Random, len: usize, lines: usize, named: usize) -> Vec<u8> 
         two[1] = 2 * mean - two[0];
     }
     shuffle(random, &mut lengths);
-    let mut text = Vec::with_capacity(len);
+    // Texts that all begin a multiple of 64 KiB apart would fight for the same places of the cache: some room behind sets them apart.
+    let mut text = Vec::with_capacity(len + random.below(4096));
     for length in lengths {
         text.extend((0..length).map(|_| b'a' + random.below(26) as u8));
         text.push(10);
@@ -209,7 +229,7 @@ pub fn orders(pairs: usize) -> Vec<Vec<usize>> {
         .collect()
 }
 
-fn shuffle(random: &mut Random, list: &mut [usize]) {
+pub fn shuffle(random: &mut Random, list: &mut [usize]) {
     for last in (1..list.len()).rev() {
         list.swap(last, random.below(last + 1));
     }

@@ -13,11 +13,12 @@ mod reference;
 
 mod baseline;
 mod inputs;
+mod paired;
 mod timing;
 
 use std::hint::black_box;
 
-use housechervil::{ClassNo, ClientNo, FolderNo, KindNo, LoginNo, Register, Request, Serial};
+use housechervil::{ClassNo, ClientNo, Conflicts, FolderNo, KindNo, LoginNo, Register, Request, Serial};
 use inputs::{Input, Texts};
 use reference::{Ask, House, Reply};
 use timing::{compare, Measured, Task};
@@ -29,22 +30,38 @@ fn main() {
     requests();
     checks();
     growth();
+    requests_by_pairs();
+    adversaries_by_pairs();
+    checks_by_pairs();
+    growth_in_pairs();
     logs();
     packing();
     names();
 }
 
-fn by_library(
-    house: &House,
-    matrix: &mut [u8],
-    ask: Ask,
-    log: &mut [u8],
-    end: usize,
-    serial: u16,
-) -> housechervil::Reply {
-    let register = Register::new(house.logins, ClassNo::from_slice(house.classes), ClientNo::from_slice(house.clients));
-    let request = Request { login: LoginNo(ask.login), folder: FolderNo(ask.folder), kind: KindNo(ask.kind) };
-    register.request(matrix, request, log, end, Serial(serial))
+/// One way to make a request.
+type Way = fn(&House, &mut [u8], Ask, &mut [u8], usize, u16) -> Reply;
+
+/// The conflicts of an input, as the library takes them.
+fn conflicts(house: &House) -> Conflicts {
+    let pairs = reference::pairs(house).map(|(first, second)| (ClientNo(first), ClientNo(second)));
+    match house.mode {
+        0 => Conflicts::ByClass,
+        _ => Conflicts::ByPair(pairs.collect()),
+    }
+}
+
+fn register<'a>(house: &House<'a>, conflicts: &'a Conflicts) -> Register<'a> {
+    Register::new(house.logins, ClassNo::from_slice(house.classes), ClientNo::from_slice(house.clients), conflicts)
+}
+
+/// The library's way to make a request of this input.
+fn by_library(input: &Input) -> impl Fn(&House, &mut [u8], Ask, &mut [u8], usize, u16) -> housechervil::Reply {
+    let conflicts = conflicts(&input.house());
+    move |house, matrix, ask, log, end, serial| {
+        let request = Request { login: LoginNo(ask.login), folder: FolderNo(ask.folder), kind: KindNo(ask.kind) };
+        register(house, &conflicts).request(matrix, request, log, end, Serial(serial))
+    }
 }
 
 /// The task of asking: the next request of the input, on a matrix and a log of its own. `restore` puts the row back each time.
@@ -70,15 +87,15 @@ fn asking<'a, R>(
 }
 
 /// Library and baselines give the same replies and leave the same bytes, over all the input's requests.
-fn see_that_they_agree(input: &Input) {
-    type Way = fn(&House, &mut [u8], Ask, &mut [u8], usize, u16) -> Reply;
-    let ways: [Way; 2] = [baseline::request_quadratic, baseline::request_linear];
-    let mut buffers = vec![(input.matrix.clone(), vec![0; 65_536]); 3];
+fn see_that_they_agree(input: &Input, ways: &[Way]) {
+    let library = by_library(input);
+    let mut ours = (input.matrix.clone(), vec![0; 65_536]);
+    let mut buffers = vec![ours.clone(); ways.len()];
     let (mut end, mut serial) = (0, 300);
     for &ask in &input.asks {
-        let (matrix, log) = &mut buffers[2];
-        let reply = by_library(&input.house(), matrix, ask, log, end, serial);
-        for (way, (matrix, log)) in ways.into_iter().zip(&mut buffers) {
+        let (matrix, log) = &mut ours;
+        let reply = library(&input.house(), matrix, ask, log, end, serial);
+        for (way, (matrix, log)) in ways.iter().zip(&mut buffers) {
             let other = way(&input.house(), matrix, ask, log, end, serial);
             let number = other.answer.map_or_else(|refusal| refusal.numbers()[0], |_| 0);
             assert_eq!(number, reply.answer.map_or_else(|refusal| refusal.number(), |_| 0));
@@ -86,7 +103,7 @@ fn see_that_they_agree(input: &Input) {
         }
         (end, serial) = (reply.end, reply.serial.0);
     }
-    assert!(buffers[0] == buffers[2] && buffers[1] == buffers[2]);
+    assert!(buffers.iter().all(|buffer| *buffer == ours));
 }
 
 // ---------------------------------------------------------------- tables
@@ -103,13 +120,16 @@ fn ns(measured: &Measured) -> String {
     }
 }
 
+/// The library, then these ways, on one input.
+fn contenders<'a>(input: &'a Input, restore: bool, ways: &[Way]) -> Vec<Task<'a>> {
+    see_that_they_agree(input, ways);
+    let library = asking(input, restore, by_library(input));
+    let others = ways.iter().map(|&way| asking(input, restore, way));
+    std::iter::once(library).chain(others).collect()
+}
+
 fn compare_requests(input: &Input, restore: bool) -> Vec<Measured> {
-    see_that_they_agree(input);
-    compare(vec![
-        asking(input, restore, by_library),
-        asking(input, restore, baseline::request_linear),
-        asking(input, restore, baseline::request_quadratic),
-    ])
+    compare(contenders(input, restore, &[baseline::request_linear, baseline::request_quadratic]))
 }
 
 fn requests() {
@@ -134,8 +154,7 @@ fn checks() {
     println!("|---|---|---|---|---|---|---|---|");
     for (name, input) in inputs::registers() {
         let house = input.house();
-        let register =
-            Register::new(house.logins, ClassNo::from_slice(house.classes), ClientNo::from_slice(house.clients));
+        let register = register(&house, &Conflicts::ByClass);
         let ways = [baseline::check_table, baseline::check_array, baseline::check_map, baseline::check_quadratic];
         assert_eq!(register.check(), Ok(()));
         let mut tasks: Vec<Task> = vec![Box::new(move |times| {
@@ -172,6 +191,89 @@ fn growth() {
             let grown: Vec<String> =
                 measured.iter().zip(first).map(|(now, then)| format!("{:.1} times", now.least / then.least)).collect();
             println!("| from 64 to 512 | {} | |", grown.join(" | "));
+        }
+    }
+    println!();
+}
+
+fn requests_by_pairs() {
+    println!("## Request by pairs, 512 folders, 256 pairs\n");
+    println!("| Request | library | Rust, a set | library by classes | library / set | by pairs / by classes |");
+    println!("|---|---|---|---|---|---|");
+    for (name, input, restore) in paired::requests() {
+        let by_classes = input.by_classes();
+        let mut tasks = contenders(&input, restore, &[baseline::request_by_set]);
+        tasks.extend(contenders(&by_classes, restore, &[]));
+        let measured = compare(tasks);
+        let times: Vec<String> = measured.iter().map(ns).collect();
+        println!("| {name} | {} | {} | {} |", times.join(" | "), ratio(&measured, 1), ratio(&measured, 2));
+    }
+    println!();
+}
+
+fn adversaries_by_pairs() {
+    println!(
+        "## Request by pairs, clients and pairs chosen against the library: a read, 512 folders, many read rights\n"
+    );
+    println!("| Clients and pairs | library | Rust, a set | Rust, all pairs for each folder | library / set | library / all pairs |");
+    println!("|---|---|---|---|---|---|");
+    for (name, input) in paired::adversaries() {
+        let ways: [Way; 2] = [baseline::request_by_set, baseline::request_by_search];
+        let measured = compare(contenders(&input, true, &ways));
+        let times: Vec<String> = measured.iter().map(ns).collect();
+        println!("| {name} | {} | {} | {} |", times.join(" | "), ratio(&measured, 1), ratio(&measured, 2));
+    }
+    println!();
+}
+
+/// The task of checking a register.
+fn checking<'a, E>(house: House<'a>, way: impl Fn(&House) -> Result<(), E> + 'a) -> Task<'a> {
+    Box::new(move |times| {
+        for _ in 0..times {
+            black_box(way(black_box(&house)).is_ok());
+        }
+    })
+}
+
+fn checks_by_pairs() {
+    println!("## Register check by pairs\n");
+    println!(
+        "| Register | library | Rust, table and a pass | library by classes | library / Rust | by pairs / by classes |"
+    );
+    println!("|---|---|---|---|---|---|");
+    for (name, input, accepted) in paired::registers() {
+        let (house, by_classes) = (input.house(), input.by_classes());
+        let [ours, classes] = [&house, &by_classes.house()].map(conflicts);
+        assert_eq!(register(&house, &ours).check().is_ok(), accepted);
+        assert_eq!(baseline::check_paired(&house).is_ok(), accepted);
+        let measured = compare(vec![
+            checking(house, |house| register(house, &ours).check()),
+            checking(house, baseline::check_paired),
+            checking(by_classes.house(), |house| register(house, &classes).check()),
+        ]);
+        let times: Vec<String> = measured.iter().map(ns).collect();
+        println!("| {name} | {} | {} | {} |", times.join(" | "), ratio(&measured, 1), ratio(&measured, 2));
+    }
+    println!();
+}
+
+fn growth_in_pairs() {
+    println!("## Growth in pairs: a read again at 512 folders, all clients distinct, many read rights\n");
+    println!("| Pairs | library | Rust, a set | Rust, all pairs for each folder | library by classes | library / set | by pairs / by classes |");
+    println!("|---|---|---|---|---|---|---|");
+    let mut first: Option<Vec<Measured>> = None;
+    for (pairs, input) in paired::growing() {
+        let by_classes = input.by_classes();
+        let mut tasks = contenders(&input, false, &[baseline::request_by_set, baseline::request_by_search]);
+        tasks.extend(contenders(&by_classes, false, &[]));
+        let measured = compare(tasks);
+        let times: Vec<String> = measured.iter().map(ns).collect();
+        println!("| {pairs} | {} | {} | {} |", times.join(" | "), ratio(&measured, 1), ratio(&measured, 3));
+        let first = first.get_or_insert_with(|| measured.clone());
+        if pairs == 256 {
+            let grown: Vec<String> =
+                measured.iter().zip(first).map(|(now, then)| format!("{:.1} times", now.least / then.least)).collect();
+            println!("| from 0 to 256 | {} | | |", grown.join(" | "));
         }
     }
     println!();
@@ -285,12 +387,7 @@ fn names() {
     println!("## Folder names, half of the client's lines empty\n");
     println!("| Two texts of | library | Rust | library / Rust |");
     println!("|---|---|---|---|");
-    let sizes = [
-        ("64 KiB, 512 lines", 65_536, [0, 255, 511]),
-        ("8 KiB, 512 lines", 8_192, [0, 255, 511]),
-        ("128 bytes, 8 lines", 128, [0, 3, 7]),
-    ];
-    for (size, len, folders) in sizes {
+    for (size, len, folders) in inputs::NAMED {
         let texts = inputs::texts(len, usize::from(folders[2]) + 1);
         let orders = inputs::orders(texts.len());
         for folder in folders.map(FolderNo) {

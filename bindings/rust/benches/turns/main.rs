@@ -20,7 +20,7 @@ use std::ffi::{c_char, c_int, c_void, CStr, CString};
 use std::hint::black_box;
 use std::mem::transmute;
 
-use inputs::Input;
+use inputs::{Input, Texts};
 use reference::Ask;
 use timing::{compare, Task};
 
@@ -66,14 +66,28 @@ struct LogItem {
     place: usize,
 }
 
-type Check = unsafe extern "C" fn(usize, *const u16, usize, *const u16, usize) -> RegisterAnswer;
+#[repr(C)]
+#[derive(Clone, Copy, PartialEq, Debug)]
+struct Stretch {
+    number: u16,
+    text: u16,
+    place: usize,
+    length: usize,
+}
+
+#[rustfmt::skip]
+type Check = unsafe extern "C" fn(
+    usize, *const u16, usize, *const u16, usize, u8, *const u16, usize, *const u16, usize,
+) -> RegisterAnswer;
 #[rustfmt::skip]
 type Request = unsafe extern "C" fn(
-    usize, *const u16, usize, *const u16, usize, *mut u8, usize, u16, u16, u16, *mut u8, usize, usize, u16,
+    usize, *const u16, usize, *const u16, usize, u8, *const u16, usize, *const u16, usize,
+    *mut u8, usize, u16, u16, u16, *mut u8, usize, usize, u16,
 ) -> Reply;
 type LogCheck = unsafe extern "C" fn(*const u8, usize) -> Placed;
 type LogStep = unsafe extern "C" fn(*const u8, usize, usize) -> LogItem;
 type Copying = unsafe extern "C" fn(*const u8, usize, *mut u8, usize) -> Placed;
+type Naming = unsafe extern "C" fn(*const u8, usize, *const u8, usize, u16) -> Stretch;
 
 #[derive(Clone, Copy)]
 struct Library {
@@ -83,6 +97,7 @@ struct Library {
     log_step: LogStep,
     pack: Copying,
     unpack: Copying,
+    folder_name: Naming,
 }
 
 extern "C" {
@@ -111,22 +126,31 @@ impl Library {
                 log_step: transmute::<*mut c_void, LogStep>(entry(c"hc_log_step")),
                 pack: transmute::<*mut c_void, Copying>(entry(c"hc_pack")),
                 unpack: transmute::<*mut c_void, Copying>(entry(c"hc_unpack")),
+                folder_name: transmute::<*mut c_void, Naming>(entry(c"hc_folder_name")),
             }
         }
     }
 
     fn check(&self, input: &Input) -> RegisterAnswer {
-        let (classes, clients) = (&input.classes, &input.clients);
-        unsafe { (self.check)(input.logins, classes.as_ptr(), classes.len(), clients.as_ptr(), clients.len()) }
+        let (classes, clients, firsts, seconds) = (&input.classes, &input.clients, &input.firsts, &input.seconds);
+        #[rustfmt::skip]
+        let answer = unsafe {
+            (self.check)(
+                input.logins, classes.as_ptr(), classes.len(), clients.as_ptr(), clients.len(),
+                input.mode, firsts.as_ptr(), firsts.len(), seconds.as_ptr(), seconds.len(),
+            )
+        };
+        answer
     }
 
     fn request(&self, input: &Input, matrix: &mut [u8], ask: Ask, log: &mut [u8]) -> Reply {
-        let (classes, clients) = (&input.classes, &input.clients);
+        let (classes, clients, firsts, seconds) = (&input.classes, &input.clients, &input.firsts, &input.seconds);
         #[rustfmt::skip]
         let reply = unsafe {
             (self.request)(
-                input.logins, classes.as_ptr(), classes.len(), clients.as_ptr(), clients.len(), matrix.as_mut_ptr(), matrix.len(),
-                ask.login, ask.folder, ask.kind, log.as_mut_ptr(), log.len(), 0, 300,
+                input.logins, classes.as_ptr(), classes.len(), clients.as_ptr(), clients.len(),
+                input.mode, firsts.as_ptr(), firsts.len(), seconds.as_ptr(), seconds.len(),
+                matrix.as_mut_ptr(), matrix.len(), ask.login, ask.folder, ask.kind, log.as_mut_ptr(), log.len(), 0, 300,
             )
         };
         reply
@@ -148,6 +172,10 @@ impl Library {
             sum += usize::from(item.serial) + usize::from(item.folder) + usize::from(item.count) + item.list;
             place = item.place;
         }
+    }
+
+    fn folder_name(&self, Texts { client, house }: &Texts, folder: u16) -> Stretch {
+        unsafe { (self.folder_name)(client.as_ptr(), client.len(), house.as_ptr(), house.len(), folder) }
     }
 }
 
@@ -271,4 +299,24 @@ fn main() {
     };
     row("pack", turns.map(|library| copying(library.pack, &cells, packed.len())));
     row("unpack", turns.map(|library| copying(library.unpack, &packed, cells.len())));
+
+    heading("Folder names, 48 pairs of texts in turn");
+    for (size, len, folders) in inputs::NAMED {
+        let texts = inputs::texts(len, usize::from(folders[2]) + 1);
+        let orders = inputs::orders(texts.len());
+        for folder in folders {
+            for texts in &texts {
+                assert_eq!(before.folder_name(texts, folder), after.folder_name(texts, folder));
+            }
+            let naming = |library: Library| {
+                let (texts, mut orders) = (&texts, orders.iter().cycle());
+                again(move || {
+                    for &pair in orders.next().expect("they go round") {
+                        black_box(library.folder_name(black_box(&texts[pair]), black_box(folder)));
+                    }
+                })
+            };
+            row(&format!("{size}: folder {folder}"), turns.map(naming));
+        }
+    }
 }

@@ -4,7 +4,8 @@
 #![allow(dead_code)]
 
 use housechervil::{
-    ClassNo, ClientNo, FolderNo, KindNo, LogFault, LoginNo, PackError, Register, Request, Serial, UnpackError,
+    ClassNo, ClientNo, Conflicts, FolderNo, KindNo, LogFault, LoginNo, PackError, Register, Request, Serial,
+    UnpackError,
 };
 
 use crate::reference::{self, Ask, Fault, House, Record, Refusal, Reply, Stretch, Text};
@@ -62,38 +63,77 @@ impl Random {
     }
 }
 
-/// A buffer with guard bytes on both sides. Two of them are equal if guards and content are.
+/// A buffer with guards on both sides, bytes or numbers. Two of them are equal if guards and content are.
 #[derive(Clone, PartialEq, Eq, Debug)]
-pub struct Guarded {
-    bytes: Vec<u8>,
+pub struct Guarded<T = u8> {
+    all: Vec<T>,
     from: usize,
     len: usize,
+}
+
+impl<T: Copy> Guarded<T> {
+    fn laid(before: impl IntoIterator<Item = T>, content: &[T], after: impl IntoIterator<Item = T>) -> Guarded<T> {
+        let mut all: Vec<T> = before.into_iter().collect();
+        let from = all.len();
+        all.extend_from_slice(content);
+        all.extend(after);
+        Guarded { all, from, len: content.len() }
+    }
+
+    pub fn inner(&self) -> &[T] {
+        &self.all[self.from..][..self.len]
+    }
+
+    pub fn inner_mut(&mut self) -> &mut [T] {
+        &mut self.all[self.from..][..self.len]
+    }
 }
 
 impl Guarded {
     /// The content between random guards, of lengths that shift its alignment.
     pub fn new(random: &mut Random, content: &[u8]) -> Guarded {
         let from = random.range(32, 63);
-        let mut bytes = random.bytes(from);
-        bytes.extend_from_slice(content);
-        bytes.extend(random.bytes(32));
-        Guarded { bytes, from, len: content.len() }
+        let (before, after) = (random.bytes(from), random.bytes(32));
+        Guarded::laid(before, content, after)
     }
 
     /// The content between guards that are all the same byte.
     pub fn between(byte: u8, content: &[u8]) -> Guarded {
-        let mut bytes = vec![byte; 65];
-        bytes.extend_from_slice(content);
-        bytes.extend([byte; 65]);
-        Guarded { bytes, from: 65, len: content.len() }
+        Guarded::laid([byte; 65], content, [byte; 65])
+    }
+}
+
+/// The four lists of a register, each between guards. The guards are clients of the house, other ones on each list, so that a pair
+/// read there would make a conflict.
+#[derive(Clone, PartialEq, Eq)]
+struct Lists {
+    classes: Guarded<u16>,
+    clients: Guarded<u16>,
+    firsts: Guarded<u16>,
+    seconds: Guarded<u16>,
+}
+
+impl Lists {
+    fn of(house: &House) -> Lists {
+        let guards = |skip: usize| house.clients.iter().copied().chain(1..).skip(skip).take(9);
+        let laid = |list: &[u16], skip: usize| Guarded::laid(guards(skip), list, guards(skip));
+        Lists {
+            classes: laid(house.classes, 3),
+            clients: laid(house.clients, 2),
+            firsts: laid(house.firsts, 0),
+            seconds: laid(house.seconds, 1),
+        }
     }
 
-    pub fn inner(&self) -> &[u8] {
-        &self.bytes[self.from..][..self.len]
-    }
-
-    pub fn inner_mut(&mut self) -> &mut [u8] {
-        &mut self.bytes[self.from..][..self.len]
+    fn lend(&self, house: &House) -> House<'_> {
+        House {
+            logins: house.logins,
+            classes: self.classes.inner(),
+            clients: self.clients.inner(),
+            mode: house.mode,
+            firsts: self.firsts.inner(),
+            seconds: self.seconds.inner(),
+        }
     }
 }
 
@@ -105,16 +145,36 @@ pub struct Owned {
     pub logins: usize,
     pub classes: Vec<u16>,
     pub clients: Vec<u16>,
+    pub mode: u8,
+    pub firsts: Vec<u16>,
+    pub seconds: Vec<u16>,
 }
 
+/// Modes that are by pair: every one but 0.
+pub const BY_PAIR: [u8; 6] = [1, 2, 127, 128, 254, 255];
+
 impl Owned {
+    /// A register in class mode, without pairs.
     pub fn new(logins: usize, labels: &[(u16, u16)]) -> Owned {
         let (classes, clients) = labels.iter().copied().unzip();
-        Owned { logins, classes, clients }
+        Owned { logins, classes, clients, mode: 0, firsts: Vec::new(), seconds: Vec::new() }
+    }
+
+    /// The same with this mode and these pairs.
+    pub fn paired(self, mode: u8, pairs: &[(u16, u16)]) -> Owned {
+        let (firsts, seconds) = pairs.iter().copied().unzip();
+        Owned { mode, firsts, seconds, ..self }
     }
 
     pub fn lend(&self) -> House<'_> {
-        House { logins: self.logins, classes: &self.classes, clients: &self.clients }
+        House {
+            logins: self.logins,
+            classes: &self.classes,
+            clients: &self.clients,
+            mode: self.mode,
+            firsts: &self.firsts,
+            seconds: &self.seconds,
+        }
     }
 
     pub fn folders(&self) -> usize {
@@ -136,8 +196,74 @@ impl Owned {
         Owned::new(logins, &labels)
     }
 
+    /// The same by pairs, drawn among its clients and some others: in no order, repeated, reversed and overlapping, or all with one
+    /// client.
+    pub fn with_pairs(self, random: &mut Random) -> Owned {
+        let strangers = random.pick(&[2, 10, 1_000_000]);
+        let hub = random.once_in(5).then(|| self.client(random, strangers));
+        let several = random.range(1, 12);
+        let count = random.pick(&[0, 1, 2, 3, several, several, 64, 255, 256]);
+        let mut pairs = Vec::with_capacity(count);
+        while pairs.len() < count {
+            let first = hub.unwrap_or_else(|| self.client(random, strangers));
+            let second = match self.client(random, strangers) {
+                second if second == first => random.range(1, 65_535) as u16,
+                second => second,
+            };
+            match random.below(2) {
+                _ if first == second => {}
+                0 => pairs.push((first, second)),
+                _ => pairs.push((second, first)),
+            }
+        }
+        self.paired(random.pick(&BY_PAIR), &pairs)
+    }
+
+    /// A client of some folder; once in `strangers` times, or where all is sanitised, any number but 0.
+    fn client(&self, random: &mut Random, strangers: usize) -> u16 {
+        match random.below(self.folders().max(1)) {
+            _ if random.once_in(strangers) => random.range(1, 65_535) as u16,
+            folder => match self.clients.get(folder) {
+                None | Some(0) => random.range(1, 9) as u16,
+                Some(&client) => client,
+            },
+        }
+    }
+
+    /// The same in class mode, with lists of pairs that pair mode would refuse, or not: nothing may look at them.
+    pub fn with_idle_pairs(mut self, random: &mut Random) -> Owned {
+        self = self.with_pairs(random);
+        for _ in 0..random.below(3) {
+            self.damage_pairs(random);
+        }
+        self.mode = 0;
+        self
+    }
+
+    /// Damages the pairs in one way, or more where they grow; some of them happen to do no harm.
+    pub fn damage_pairs(&mut self, random: &mut Random) {
+        let place = random.below(self.firsts.len().max(1));
+        let any = self.client(random, 10);
+        let lists = [&mut self.firsts, &mut self.seconds];
+        match random.below(8) {
+            0 => lists.into_iter().for_each(|list| list.resize(257, any)),
+            1 => lists.into_iter().for_each(|list| list.resize(random.pick(&[256, 258, 300, 512, 513, 70_000]), any)),
+            2 => drop(lists[random.below(2)].pop()),
+            3 => lists[random.below(2)].push(any),
+            4 => lists[random.below(2)].clear(),
+            5 | 6 => lists[random.below(2)].iter_mut().skip(place).take(1).for_each(|client| *client = 0),
+            _ => {
+                let [firsts, seconds] = lists;
+                firsts.iter_mut().zip(seconds).skip(place).take(1).for_each(|(first, second)| *first = *second);
+            }
+        }
+    }
+
     /// Damages the register in one way; some of them happen to do no harm.
     pub fn damage(&mut self, random: &mut Random) {
+        if self.mode != 0 && random.once_in(3) {
+            return self.damage_pairs(random);
+        }
         let place = random.below(self.folders().max(1));
         match random.below(14) {
             0 => self.logins = random.pick(&[0, 129, 130, 65_536, usize::MAX]),
@@ -179,8 +305,17 @@ pub fn serial(random: &mut Random) -> u16 {
 
 // ---------------------------------------------------------------- the library against the reference
 
-fn register<'a>(house: &House<'a>) -> Register<'a> {
-    Register::new(house.logins, ClassNo::from_slice(house.classes), ClientNo::from_slice(house.clients))
+fn register<'a>(house: &House<'a>, conflicts: &'a Conflicts) -> Register<'a> {
+    Register::new(house.logins, ClassNo::from_slice(house.classes), ClientNo::from_slice(house.clients), conflicts)
+}
+
+/// The conflicts of a house as the safe crate has them. It has no pairs in class mode, and none in lists of unequal length.
+pub fn conflicts(house: &House) -> Option<Conflicts> {
+    if !house.is_by_pair() {
+        return Some(Conflicts::ByClass);
+    }
+    let pairs = || reference::pairs(house).map(|(first, second)| (ClientNo(first), ClientNo(second)));
+    (house.firsts.len() == house.seconds.len()).then(|| Conflicts::ByPair(pairs().collect()))
 }
 
 /// The numbers of a refusal of the safe crate.
@@ -209,21 +344,75 @@ pub fn same_check(house: &House) -> Result<(), Refusal> {
     let expected = reference::check(house);
     let numbers = expected.map_or_else(Refusal::numbers, |()| [0; 3]);
 
-    let (classes, clients) = (house.classes, house.clients);
-    // SAFETY: pointers and lengths are of slices.
-    let raw = unsafe {
-        sys::hc_register_check(house.logins, classes.as_ptr(), classes.len(), clients.as_ptr(), clients.len())
-    };
+    let lists = Lists::of(house);
+    let raw = raw_check(&lists.lend(house));
     assert_eq!([raw.number, raw.first, raw.second], numbers, "C interface on {house:?}");
+    assert!(lists == Lists::of(house), "lists or their guards, C interface on {house:?}");
 
-    let safe = register(house).check();
-    let safe = safe.map_or_else(|error| crate_numbers(error.into()), |()| [0; 3]);
-    assert_eq!(safe, numbers, "safe crate on {house:?}");
+    if let Some(conflicts) = conflicts(house) {
+        let safe = register(house, &conflicts).check();
+        let safe = safe.map_or_else(|error| crate_numbers(error.into()), |()| [0; 3]);
+        assert_eq!(safe, numbers, "safe crate on {house:?}");
+    }
     expected
 }
 
+/// The register check through the C interface, on the lists where they are.
+pub fn raw_check(house: &House) -> sys::hc_register_answer {
+    // SAFETY: pointers and lengths are of slices.
+    unsafe {
+        sys::hc_register_check(
+            house.logins,
+            house.classes.as_ptr(),
+            house.classes.len(),
+            house.clients.as_ptr(),
+            house.clients.len(),
+            house.mode,
+            house.firsts.as_ptr(),
+            house.firsts.len(),
+            house.seconds.as_ptr(),
+            house.seconds.len(),
+        )
+    }
+}
+
+/// A request through the C interface, on the lists and buffers where they are.
+pub fn raw_request(
+    house: &House,
+    matrix: &mut [u8],
+    ask: Ask,
+    log: &mut [u8],
+    end: usize,
+    serial: u16,
+) -> sys::hc_reply {
+    // SAFETY: pointers and lengths are of slices; matrix and log are lent as `&mut`.
+    unsafe {
+        sys::hc_request(
+            house.logins,
+            house.classes.as_ptr(),
+            house.classes.len(),
+            house.clients.as_ptr(),
+            house.clients.len(),
+            house.mode,
+            house.firsts.as_ptr(),
+            house.firsts.len(),
+            house.seconds.as_ptr(),
+            house.seconds.len(),
+            matrix.as_mut_ptr(),
+            matrix.len(),
+            ask.login,
+            ask.folder,
+            ask.kind,
+            log.as_mut_ptr(),
+            log.len(),
+            end,
+            serial,
+        )
+    }
+}
+
 /// A request: both ways into the library against the reference. Answer, matrix and log with their guards, end and serial must be
-/// the same; then matrix and log are left as the request leaves them.
+/// the same, and the register's lists stay; then matrix and log are left as the request leaves them.
 #[track_caller]
 pub fn same_request(
     house: &House,
@@ -250,43 +439,30 @@ pub fn same_request(
         Err(refusal) => (refusal.numbers(), 0),
     };
 
-    let (m, l) = (raw_matrix.inner_mut(), raw_log.inner_mut());
-    // SAFETY: pointers and lengths are of slices; matrix and log are two buffers.
-    let raw = unsafe {
-        sys::hc_request(
-            house.logins,
-            house.classes.as_ptr(),
-            house.classes.len(),
-            house.clients.as_ptr(),
-            house.clients.len(),
-            m.as_mut_ptr(),
-            m.len(),
-            ask.login,
-            ask.folder,
-            ask.kind,
-            l.as_mut_ptr(),
-            l.len(),
-            end,
-            serial,
-        )
-    };
+    let lists = Lists::of(house);
+    let raw = raw_request(&lists.lend(house), raw_matrix.inner_mut(), ask, raw_log.inner_mut(), end, serial);
     let reply = sys::hc_reply { number, first, second, count, end: expected.end, serial: expected.serial };
     assert_eq!(raw, reply, "C interface on {}", context());
     assert!(raw_matrix == next_matrix, "matrix or its guards, C interface on {}", context());
     assert!(raw_log == next_log, "log or its guards, C interface on {}", context());
+    assert!(lists == Lists::of(house), "lists or their guards, C interface on {}", context());
 
-    let request = Request { login: LoginNo(ask.login), folder: FolderNo(ask.folder), kind: KindNo(ask.kind) };
-    let safe = register(house).request(safe_matrix.inner_mut(), request, safe_log.inner_mut(), end, Serial(serial));
-    let answer = safe
-        .answer
-        .map_or_else(|refusal| (crate_numbers(refusal), 0), |granted| ([granted.number(), 0, 0], granted.taken_back));
-    assert_eq!(answer, ([number, first, second], count), "safe crate on {}", context());
-    if let Err(refusal) = safe.answer {
-        same_unknown(refusal, request);
+    if let Some(conflicts) = conflicts(house) {
+        let register = register(house, &conflicts);
+        let request = Request { login: LoginNo(ask.login), folder: FolderNo(ask.folder), kind: KindNo(ask.kind) };
+        let safe = register.request(safe_matrix.inner_mut(), request, safe_log.inner_mut(), end, Serial(serial));
+        let answer = safe.answer.map_or_else(
+            |refusal| (crate_numbers(refusal), 0),
+            |granted| ([granted.number(), 0, 0], granted.taken_back),
+        );
+        assert_eq!(answer, ([number, first, second], count), "safe crate on {}", context());
+        if let Err(refusal) = safe.answer {
+            same_unknown(refusal, request);
+        }
+        assert_eq!((safe.end, safe.serial.0), (expected.end, expected.serial), "safe crate on {}", context());
+        assert!(safe_matrix == next_matrix, "matrix or its guards, safe crate on {}", context());
+        assert!(safe_log == next_log, "log or its guards, safe crate on {}", context());
     }
-    assert_eq!((safe.end, safe.serial.0), (expected.end, expected.serial), "safe crate on {}", context());
-    assert!(safe_matrix == next_matrix, "matrix or its guards, safe crate on {}", context());
-    assert!(safe_log == next_log, "log or its guards, safe crate on {}", context());
 
     *matrix = next_matrix;
     *log = next_log;
