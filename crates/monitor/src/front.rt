@@ -32,7 +32,7 @@ fn known(logins: usize, folders: usize, size: usize, asked: Request) -> Response
     Response::Granted(0)
 }
 
-// Rows 1 to 7 and 11; `size` is the matrix's length.
+// Rows 1 to 7 and 11; `size` is the matrix's length. The labels are judged apart from the pairs, so that by classes the lists of pairs cost nothing.
 pub(crate) fn judge_front(
     logins: usize,
     classes: &[u16],
@@ -45,12 +45,17 @@ pub(crate) fn judge_front(
 ) -> Response
     ensures { λ r. ⌜ responseAnswer r ≡ oneToSeven (lentBy logins classes clients «by_pairs» firsts seconds) size (requestOf asked) ⌝ }
 {
-    let verdict = register_check::check(logins, classes, clients, by_pairs, firsts, seconds);
+    let verdict = register_check::check_labels(logins, classes, clients);
     match verdict {
         Verdict::OutOfRange => Response::OutOfRange,
         Verdict::LoneZero(f) => Response::LoneZero(f),
         Verdict::TwoClasses(f, g) => Response::TwoClasses(f, g),
         Verdict::BadPairs => Response::BadPairs,
-        Verdict::Accepted => known(logins, classes.len(), size, asked),
+        Verdict::Accepted => {
+            if register_check::pairs_refused(by_pairs, firsts, seconds) {
+                return Response::BadPairs;
+            }
+            known(logins, classes.len(), size, asked)
+        }
     }
 }

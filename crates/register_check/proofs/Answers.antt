@@ -1,23 +1,25 @@
 -- What the register check answers past its first row: 2 by the first find of its search, and else what the search for 3 answers.
 use Prim.Native.Nat.{ℕ}
-use mathlib.Core.Path.{_≡_, sym, ap, _∙_}
-use mathlib.Core.Logic.{_⊎_, inl, inr}
-use mathlib.Core.Bool.{true, false}
+use mathlib.Core.Path.{_≡_, refl, sym, ap, _∙_}
+use mathlib.Core.Bool.{Bool, true, false, cond, _&&_}
 use mathlib.Core.List.{List, [], _∷_}
-use native.Mathlib.Omega.{arith}
+use lib.Dec.{eqb}
 use lib.ListN.{length, getD}
-use borrow.Author.Tests.{le-leb, eq-eqb}
+use borrow.Author.Tests.{le-leb, eq-eqb, eqb-false}
 use Rattle.vocabulary.specs.Answer.{Answer, answer, judge}
 use Rattle.vocabulary.specs.Those.{those, some}
 use Rattle.vocabulary.proofs.Those.{first-smallest}
-use Rattle.vocabulary.proofs.Bools.{true-or-false}
-use Rattle.register.specs.Register.{Register, registerBy, registerOf, folders, inRange, loneZero, earlier, later, twoClasses, badPairs, registerChecks, registerAnswer}
+use Rattle.vocabulary.proofs.Judge.{judge-silent}
+use Rattle.register.specs.Register.{Register, registerBy, registerOf, folders, inRange, loneZero, earlier, later, badPairs, registerChecks, registerAnswer}
+use Rattle.register.specs.Claims.{inClasses}
+use Rattle.register.proofs.Claims.{modes-checked}
 use Rattle.register.proofs.Answers.{inRange-ranged}
 use Rattle.register_search.specs.Search.{searchAnswer}
-use Rattle.register_check.specs.Verdict.{pairsAnswer}
 
-3-0 : _≡_ {A = ℕ} 3 0 → ⊥
-3-0 e = omega (arith, e)
+-- Where the register check's number is 0, it says nothing else.
+accepted : (r : Register) → registerAnswer r .number ≡ 0 → registerAnswer r ≡ answer 0 []
+unfolding registerAnswer registerChecks
+accepted r e = judge-silent (registerChecks r) (answer 0 []) 0 refl e .1
 
 -- The folders that refusal 2 names.
 abbrev pub lone : Register → List ℕ
@@ -27,32 +29,38 @@ pub answer-lone : (r : Register) → inRange r ≡ true → some (lone r) ≡ tr
 unfolding registerAnswer registerChecks judge
 answer-lone r fits found = rw (fits, found, first-smallest (loneZero r) (folders r) (folders r) found)
 
--- A register's pairs alone.
-abbrev pub pairsOf : Register → Register
-pairsOf r = registerBy 0 [] [] true (r .firsts) (r .seconds)
+-- By classes, the search for 3 has the last word; it asks nothing of the logins.
+pub answer-search : (p : ℕ) (cs ds : List ℕ) → inRange (registerOf p cs ds) ≡ true → some (lone (registerOf p cs ds)) ≡ false →
+    registerAnswer (registerOf p cs ds) ≡ searchAnswer (registerOf 0 cs ds)
+unfolding registerAnswer registerChecks judge searchAnswer later earlier
+answer-search p cs ds fits none =
+    let sizes = inRange-ranged (registerOf p cs ds) fits in
+    rw (fits, none, le-leb (length cs) 512 (sizes .folders-few), eq-eqb (length cs) (length ds) (sizes .folders-alike))
 
-module _ (r : Register) (fits : inRange r ≡ true) (none : some (lone r) ≡ false) where
-  -- The search for 3 asks nothing of the logins, nor of the pairs.
-  searched-alone : searchAnswer (registerOf 0 (r .classes) (r .clients)) ≡ judge (twoClasses r ∷ []) (answer 0 [])
-  unfolding judge searchAnswer later earlier
-  searched-alone =
-      let sizes = inRange-ranged r fits in
-      rw (le-leb (folders r) 512 (sizes .folders-few), eq-eqb (folders r) (length (r .clients)) (sizes .folders-alike))
+-- What follows the labels' rows: refusals of theirs stay, and else the pairs are judged.
+module _ (r : Register) where
+  -- A register's pairs alone.
+  abbrev alone : Register
+  alone = registerBy 0 [] [] true (r .firsts) (r .seconds)
 
-  -- What it names is the register check's answer.
-  pub answer-clash : (f g : ℕ) → answer 3 (f ∷ g ∷ []) ≡ searchAnswer (registerOf 0 (r .classes) (r .clients)) → answer 3 (f ∷ g ∷ []) ≡ registerAnswer r
-  unfolding registerAnswer registerChecks judge
-  answer-clash f g e = by (true-or-false (some (later r)))
+  judged : r .byPairs && badPairs alone ≡ r .byPairs && badPairs r
+  unfolding badPairs
+  judged = refl
+
+  both-modes : registerAnswer (inClasses r) .number ≡ 0 → registerAnswer r ≡ cond (r .byPairs && badPairs alone) (answer 11 []) (answer 0 [])
+  unfolding badPairs
+  both-modes e = by (r .byPairs) refl
     where
-      by : (some (later r) ≡ true) ⊎ (some (later r) ≡ false) → answer 3 (f ∷ g ∷ []) ≡ registerAnswer r
-      by (inl two) = rw (fits, none, two) (rw two at (e ∙ searched-alone))
-      by (inr two) = absurd (3-0 (ap (λ (a : Answer). a .number) (rw two at (e ∙ searched-alone))))
+      by : (mode : Bool) → r .byPairs ≡ mode → registerAnswer r ≡ cond (mode && badPairs r) (answer 11 []) (answer 0 [])
+      by true m = modes-checked .pairs r m e
+      by false m = modes-checked .classes r m ∙ accepted (inClasses r) e
 
-  -- Where it names none, the pairs are judged.
-  pub answer-pairs : answer 0 [] ≡ searchAnswer (registerOf 0 (r .classes) (r .clients)) → pairsAnswer (r .byPairs) (pairsOf r) ≡ registerAnswer r
-  unfolding registerAnswer registerChecks judge badPairs
-  answer-pairs e = by (true-or-false (some (later r)))
-    where
-      by : (some (later r) ≡ true) ⊎ (some (later r) ≡ false) → pairsAnswer (r .byPairs) (pairsOf r) ≡ registerAnswer r
-      by (inl two) = absurd (3-0 (sym (ap (λ (a : Answer). a .number) (rw two at (e ∙ searched-alone)))))
-      by (inr two) = rw (fits, none, two)
+  pub answer-pairs : answer 0 [] ≡ registerAnswer (inClasses r) → (r .byPairs && badPairs alone) ≡ true → answer 11 [] ≡ registerAnswer r
+  answer-pairs e bad = sym (both-modes (sym (ap (λ (a : Answer). a .number) e)) ∙ ap (λ (b : Bool). cond b (answer 11 []) (answer 0 [])) bad)
+
+  pub answer-accepted : answer 0 [] ≡ registerAnswer (inClasses r) → (r .byPairs && badPairs alone) ≡ false → answer 0 [] ≡ registerAnswer r
+  answer-accepted e good = sym (both-modes (sym (ap (λ (a : Answer). a .number) e)) ∙ ap (λ (b : Bool). cond b (answer 11 []) (answer 0 [])) good)
+
+  pub answer-refused : (a : Answer) → eqb (a .number) 0 ≡ false → a ≡ registerAnswer (inClasses r) → a ≡ registerAnswer r
+  answer-refused a n e =
+      e ∙ sym (modes-checked .refused r (λ z. eqb-false (a .number) 0 n (ap (λ (b : Answer). b .number) e ∙ z)))

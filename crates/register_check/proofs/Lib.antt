@@ -1,1 +1,3 @@
 pub mod Answers
+-- For callers:
+pub mod NotAccepted

@@ -1,8 +1,6 @@
 -- The register check's answers, by document 01's numbers, with document 02's 11.
-use mathlib.Core.Bool.{Bool, cond, _&&_}
 use mathlib.Core.List.{[], _∷_}
 use Rattle.vocabulary.specs.Answer.{Answer, answer}
-use Rattle.register.specs.Register.{Register, badPairs}
 use Rattle.register_check.specs.declared.Verdict.{Verdict}
 use Rattle.register_check.specs.declared.Verdict.the-variants.{Accepted, OutOfRange, LoneZero, TwoClasses, BadPairs}
 
@@ -12,7 +10,3 @@ verdictAnswer OutOfRange = answer 1 []
 verdictAnswer (LoneZero f) = answer 2 (f .0 ∷ [])
 verdictAnswer (TwoClasses f g) = answer 3 (f .0 ∷ g .0 ∷ [])
 verdictAnswer BadPairs = answer 11 []
-
--- What the table's row 11 says alone.
-abbrev pub pairsAnswer : (byPairs : Bool) → Register → Answer
-pairsAnswer byPairs r = cond (byPairs && badPairs r) (answer 11 []) (answer 0 [])

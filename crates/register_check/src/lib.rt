@@ -7,8 +7,9 @@ use ids::FolderNo;
 use register_search::Clash;
 ghost use mathlib.Core.Path.{_≡_};
 ghost use Rattle.register.specs.Lent.{lent, lentBy, lentPairs};
-ghost use Rattle.register.specs.Register.{inRange, registerAnswer};
-ghost use Rattle.register_check.specs.Verdict.{pairsAnswer, verdictAnswer};
+ghost use mathlib.Core.Bool.{_&&_};
+ghost use Rattle.register.specs.Register.{badPairs, inRange, registerAnswer};
+ghost use Rattle.register_check.specs.Verdict.{verdictAnswer};
 
 // The register check's answer.
 pub enum Verdict {
@@ -35,17 +36,32 @@ fn in_range(logins: usize, classes: &[u16], clients: &[u16]) -> bool
         & (classes.len() == clients.len())
 }
 
-// The table's row 11 alone. By classes the pairs are not looked at.
-fn judge_pairs(by_pairs: bool, firsts: &[u16], seconds: &[u16]) -> Verdict
-    ensures { λ r. ⌜ verdictAnswer r ≡ pairsAnswer «by_pairs» (lentPairs firsts seconds) ⌝ }
+// The table's rows 1 to 3, of the folders' labels: what both modes have.
+pub fn check_labels(logins: usize, classes: &[u16], clients: &[u16]) -> Verdict
+    ensures { λ r. ⌜ verdictAnswer r ≡ registerAnswer (lent logins classes clients) ⌝ }
 {
-    if !by_pairs {
-        return Verdict::Accepted;
+    if !in_range(logins, classes, clients) {
+        return Verdict::OutOfRange;
     }
-    if register_pairs::bad_pairs(firsts, seconds) {
-        return Verdict::BadPairs;
+    if any_lone_zero(classes, clients) {
+        let f = first_lone_zero(classes, clients);
+        return Verdict::LoneZero(FolderNo(f as u16));
     }
-    Verdict::Accepted
+    let clash = register_search::first_clash(classes, clients);
+    match clash {
+        Clash::Never => Verdict::Accepted,
+        Clash::Between(f, g) => Verdict::TwoClasses(f, g),
+    }
+}
+
+// Whether the table's row 11 speaks. By classes the pairs are not looked at.
+pub fn pairs_refused(by_pairs: bool, firsts: &[u16], seconds: &[u16]) -> bool
+    ensures { λ r. ⌜ r ≡ («by_pairs» && badPairs (lentPairs firsts seconds)) ⌝ }
+{
+    if by_pairs {
+        return register_pairs::bad_pairs(firsts, seconds);
+    }
+    false
 }
 
 // The register check: the table's rows 1 to 3 and, in pair mode, 11.
@@ -59,16 +75,14 @@ pub fn check(
 ) -> Verdict
     ensures { λ r. ⌜ verdictAnswer r ≡ registerAnswer (lentBy logins classes clients «by_pairs» firsts seconds) ⌝ }
 {
-    if !in_range(logins, classes, clients) {
-        return Verdict::OutOfRange;
-    }
-    if any_lone_zero(classes, clients) {
-        let f = first_lone_zero(classes, clients);
-        return Verdict::LoneZero(FolderNo(f as u16));
-    }
-    let clash = register_search::first_clash(classes, clients);
-    match clash {
-        Clash::Between(f, g) => Verdict::TwoClasses(f, g),
-        Clash::Never => judge_pairs(by_pairs, firsts, seconds),
+    let verdict = check_labels(logins, classes, clients);
+    match verdict {
+        Verdict::Accepted => {
+            if pairs_refused(by_pairs, firsts, seconds) {
+                return Verdict::BadPairs;
+            }
+            verdict
+        }
+        _ => verdict,
     }
 }

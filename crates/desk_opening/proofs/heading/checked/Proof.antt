@@ -10,7 +10,8 @@ use Rattle.text_lines.proofs.Printed.{part-text}
 use Rattle.desk_opening.specs.Folders.{Filed}
 use Rattle.desk_opening.specs.Heading.{Stored, stored, Kept}
 use Rattle.desk_opening.specs.Opened.{openedWith}
-use Rattle.desk_opening.proofs.Opened.{register-over, refused}
+use Rattle.register_check.proofs.NotAccepted.{not-accepted}
+use Rattle.desk_opening.proofs.Opened.{register-over}
 use Rattle.desk_opening.proofs.heading.checked.Tie as tie
 use Rattle.desk_opening.proofs.heading.checked.Statement.{statement}
 
@@ -96,7 +97,7 @@ returns-3 : tie.Need-returns-3
 unfolding openedWith
 returns-3 c =
     λ f k.
-    rw (c .closed2 .ensures, c .before .bad-register2 .ensures, ← verdict (c .before .before .before) f k, refused (c .before .before .before .check .result) (c .before .before .match .keys2))
+    rw (c .closed2 .ensures, c .before .bad-register2 .ensures, ← verdict (c .before .before .before) f k, not-accepted (c .before .before .before .check .result) (c .before .before .match .keys2))
 
 pub checked-spec : {M : Type 1} → statement M
 checked-spec =

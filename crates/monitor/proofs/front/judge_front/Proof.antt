@@ -1,15 +1,17 @@
--- `judge_front` meets its contract: the register's rows come before the others.
-use mathlib.Core.Path.{_∙_}
+-- `judge_front` meets its contract: the register's rows come before the others, the labels' before the pairs'.
+use mathlib.Core.Path.{refl, sym, _∙_}
 use mathlib.Core.List.{[], _∷_}
-use Rattle.vocabulary.specs.Answer.{answer}
-use Rattle.monitor.proofs.FirstRows.{registered-range, register-open, register-refused}
 use native.Mathlib.Omega.{arith}
 use borrow.Author.Needs.{needs}
+use Rattle.vocabulary.specs.Answer.{answer}
+use Rattle.register.specs.Register.{registerBy}
+use Rattle.register_check.proofs.Answers.{answer-pairs, answer-accepted, answer-refused}
+use Rattle.monitor.proofs.FirstRows.{registered-range, register-open, register-refused}
 use Rattle.monitor.proofs.front.judge_front.Statement.{statement}
 use Rattle.monitor.proofs.front.judge_front.Tie as tie
 
-check-requires : tie.Need-check-requires
-check-requires c κs = search needs
+check-labels-requires : tie.Need-check-labels-requires
+check-labels-requires c κs = search needs
 
 enum-told : tie.Need-enum-told
 enum-told c = search needs
@@ -26,44 +28,62 @@ enum-told-2 c = search needs
 enum-told-3 : tie.Need-enum-told-3
 enum-told-3 c = search needs
 
-known-requires : tie.Need-known-requires
-known-requires c κs =
-    let g = registered-range _ (rw (c .enum-told3 .given .1) at (c .before .before .check .ensures)) in
-    (g .logins-few, g .folders-few)
+pairs-refused-requires : tie.Need-pairs-refused-requires
+pairs-refused-requires c κs = search needs
 
 returns : tie.Need-returns
 returns c =
-    register-refused _ _ _ (answer 1 []) (λ z. omega arith) (rw (c .enum-told .given .1) at (c .before .before .check .ensures))
+    let r = registerBy (c .before .before .before .before .before .before .before .before .before .args .logins) (c .before .before .before .before .before .before .before .before .before .args .classes .now) (c .before .before .before .before .before .before .before .before .before .args .clients .now) (c .before .before .before .before .before .before .before .before .before .args .by-pairs) (c .before .before .before .before .before .before .before .before .before .args .firsts .now) (c .before .before .before .before .before .before .before .before .before .args .seconds .now) in
+    register-refused r _ _ (answer 11 []) (λ z. omega arith)
+    (answer-pairs r (rw (c .before .before .enum-told3 .given .1) at (c .before .before .before .before .check-labels .ensures)) (sym (c .before .pairs-refused .ensures) ∙ c .if1 .taken))
+
+known-requires : tie.Need-known-requires
+known-requires c κs =
+    let g = registered-range _ (rw (c .before .before .enum-told3 .given .1) at (c .before .before .before .before .check-labels .ensures)) in
+    (g .logins-few, g .folders-few)
 
 returns-2 : tie.Need-returns-2
 returns-2 c =
-    register-refused _ _ _ (answer 2 (c .before .verdict .given .0 .0 .0 ∷ [])) (λ z. omega arith) (rw (c .before .verdict .given .1) at (c .before .before .before .check .ensures))
+    let r = registerBy (c .before .before .before .before .before .before .before .args .logins) (c .before .before .before .before .before .before .before .args .classes .now) (c .before .before .before .before .before .before .before .args .clients .now) (c .before .before .before .before .before .before .before .args .by-pairs) (c .before .before .before .before .before .before .before .args .firsts .now) (c .before .before .before .before .before .before .before .args .seconds .now) in
+    register-refused r _ _ (answer 1 []) (λ z. omega arith) (answer-refused r (answer 1 []) refl (rw (c .enum-told .given .1) at (c .before .before .check-labels .ensures)))
 
 returns-3 : tie.Need-returns-3
 returns-3 c =
-    register-refused _ _ _ (answer 3 (c .before .verdict2 .given .0 .0 .0 ∷ c .before .verdict2 .given .0 .1 .0 .0 ∷ [])) (λ z. omega arith) (rw (c .before .verdict2 .given .1) at (c .before .before .before .check .ensures))
+    let r = registerBy (c .before .before .before .before .before .before .before .before .args .logins) (c .before .before .before .before .before .before .before .before .args .classes .now) (c .before .before .before .before .before .before .before .before .args .clients .now) (c .before .before .before .before .before .before .before .before .args .by-pairs) (c .before .before .before .before .before .before .before .before .args .firsts .now) (c .before .before .before .before .before .before .before .before .args .seconds .now) in
+    register-refused r _ _ (answer 2 (c .before .verdict .given .0 .0 .0 ∷ [])) (λ z. omega arith) (answer-refused r (answer 2 (c .before .verdict .given .0 .0 .0 ∷ [])) refl (rw (c .before .verdict .given .1) at (c .before .before .before .check-labels .ensures)))
 
 returns-4 : tie.Need-returns-4
 returns-4 c =
-    register-refused _ _ _ (answer 11 []) (λ z. omega arith) (rw (c .enum-told2 .given .1) at (c .before .before .check .ensures))
+    let r = registerBy (c .before .before .before .before .before .before .before .before .args .logins) (c .before .before .before .before .before .before .before .before .args .classes .now) (c .before .before .before .before .before .before .before .before .args .clients .now) (c .before .before .before .before .before .before .before .before .args .by-pairs) (c .before .before .before .before .before .before .before .before .args .firsts .now) (c .before .before .before .before .before .before .before .before .args .seconds .now) in
+    register-refused r _ _ (answer 3 (c .before .verdict2 .given .0 .0 .0 ∷ c .before .verdict2 .given .0 .1 .0 .0 ∷ [])) (λ z. omega arith) (answer-refused r (answer 3 (c .before .verdict2 .given .0 .0 .0 ∷ c .before .verdict2 .given .0 .1 .0 .0 ∷ [])) refl (rw (c .before .verdict2 .given .1) at (c .before .before .before .check-labels .ensures)))
 
 returns-5 : tie.Need-returns-5
 returns-5 c =
-    c .known .ensures ∙ register-open _ _ _ (rw (c .before .enum-told3 .given .1) at (c .before .before .before .check .ensures))
+    let r = registerBy (c .before .before .before .before .before .before .before .args .logins) (c .before .before .before .before .before .before .before .args .classes .now) (c .before .before .before .before .before .before .before .args .clients .now) (c .before .before .before .before .before .before .before .args .by-pairs) (c .before .before .before .before .before .before .before .args .firsts .now) (c .before .before .before .before .before .before .before .args .seconds .now) in
+    register-refused r _ _ (answer 11 []) (λ z. omega arith) (answer-refused r (answer 11 []) refl (rw (c .enum-told2 .given .1) at (c .before .before .check-labels .ensures)))
+
+returns-6 : tie.Need-returns-6
+returns-6 c =
+    let r = registerBy (c .before .before .before .before .before .before .before .before .before .before .args .logins) (c .before .before .before .before .before .before .before .before .before .before .args .classes .now) (c .before .before .before .before .before .before .before .before .before .before .args .clients .now) (c .before .before .before .before .before .before .before .before .before .before .args .by-pairs) (c .before .before .before .before .before .before .before .before .before .before .args .firsts .now) (c .before .before .before .before .before .before .before .before .before .before .args .seconds .now) in
+    c .known .ensures
+    ∙ register-open r _ _
+    (answer-accepted r (rw (c .before .before .before .enum-told3 .given .1) at (c .before .before .before .before .before .check-labels .ensures)) (sym (c .before .before .pairs-refused .ensures) ∙ c .before .if1 .left))
 
 pub judge-front-spec : {M : Type 1} → statement M
 judge-front-spec =
     tie.close
     (tie.spec
-    check-requires
+    check-labels-requires
     enum-told
     enum-known-verdict
     enum-known-verdict-2
     enum-told-2
     enum-told-3
-    known-requires
+    pairs-refused-requires
     returns
+    known-requires
     returns-2
     returns-3
     returns-4
-    returns-5)
+    returns-5
+    returns-6)
