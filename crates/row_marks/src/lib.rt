@@ -13,7 +13,7 @@ ghost use lib.Dec.{eqb};
 ghost use lib.ListN.{length};
 ghost use Rattle.register.specs.Lent.{lentClients};
 ghost use Rattle.policy.specs.Rules.{canRead};
-ghost use Rattle.row_marks.specs.Marks.{Sparse, fitted, firstRead};
+ghost use Rattle.row_marks.specs.Marks.{Placed, fitted, firstRead};
 ghost use Rattle.row_marks.specs.Opposed.{firstOpposer};
 
 // Whether the clients are of the row's length, and the pairs fit.
@@ -32,7 +32,7 @@ fn read_and_marked(cell: u8, bits: u64) -> bool
 
 // The first readable folder of a marked client, or the row's length. What the walk has passed has none.
 fn first(row: &[u8], clients: &[u16], blocks: &[u16; 1024], bits: &[u64; 257]) -> usize
-    requires { ⌜ (length (now clients) ≡ length (now row)) × Sparse (now blocks) (now bits) 256 ⌝ }
+    requires { ⌜ (length (now clients) ≡ length (now row)) × Placed (now blocks) ⌝ }
     ensures { λ r. ⌜ r ≡ firstRead (now (row .entry)) (now (clients .entry)) (now (blocks .entry)) (now (bits .entry)) ⌝ }
 {
     let mut f = 0;
