@@ -11,7 +11,7 @@ use Rattle.policy.specs.Rules.{cell, canRead}
 use Rattle.row_pairs.specs.Among.{readableWith, firstWith, firstAmong}
 
 -- The last number searched stands for 'none' where it passes the test.
-first-suc : (p : ℕ → Bool) (n d : ℕ) → getD (those p (suc n)) 0 d ≡ getD (those p n) 0 (cond (p n) n d)
+pub first-suc : (p : ℕ → Bool) (n d : ℕ) → getD (those p (suc n)) 0 d ≡ getD (those p n) 0 (cond (p n) n d)
 unfolding those
 first-suc p n d = at (those p n) (p n)
   where

@@ -1,5 +1,5 @@
 -- A list of clients taken four by four.
-use Prim.Native.Nat.{ℕ, zero, suc, _+_, _<_, min}
+use Prim.Native.Nat.{ℕ, zero, suc, _+_, _<_}
 use mathlib.Core.Path.{_≡_, refl, sym, _∙_}
 use mathlib.Core.Bool.{Bool, true, false, _||_, or-false, or-assoc}
 use mathlib.Core.List.{List, [], _∷_}
@@ -12,6 +12,7 @@ use Rattle.vocabulary.specs.Those.{member}
 use Rattle.vocabulary.proofs.Those.{member-append}
 use Rattle.row_pairs.specs.Among.{firstWith, firstAmong, oneOf, fourFrom}
 use Rattle.row_pairs.proofs.Firsts.{with-agree, with-or}
+use Rattle.row_pairs.proofs.Cuts.{with-before, with-most}
 
 -- The first four of a list, the first of them again where there are fewer.
 four-members : (x : ℕ) (l : List ℕ) → 0 < length l → member x (take 4 l) ≡ oneOf (fourFrom l 0) x
@@ -33,12 +34,13 @@ getD-within zero (x ∷ l) i d e h j = absurd (not-suc-le-zero h)
 getD-within (suc n) (x ∷ l) zero d e h j = refl
 getD-within (suc n) (x ∷ l) (suc i) d e h j = getD-within n l i d e (le-of-suc-le-suc h) (le-of-suc-le-suc j)
 
--- Four listed clients more: the first find is the smaller of the one so far and theirs.
-pub among-step : (list row clients : List ℕ) (i : ℕ) → i < length list →
-    min (firstAmong (take i list) row clients) (firstWith (oneOf (fourFrom list i)) row clients) ≡ firstAmong (take (i + 4) list) row clients
-among-step list row clients i h =
+-- Four listed clients more: the first find is theirs in what stands before the one so far.
+pub among-step : (list row clients : List ℕ) (i : ℕ) → i < length list → (first : ℕ) → first ≡ firstAmong (take i list) row clients →
+    firstWith (oneOf (fourFrom list i)) (take first row) (take first clients) ≡ firstAmong (take (i + 4) list) row clients
+among-step list row clients i h first e =
     let so-far : ℕ → Bool = λ x. member x (take i list) in
     let some-left : 0 < length (drop i list) = simp length-drop (omega arith) in
-    sym (with-or row clients so-far (oneOf (fourFrom list i)))
+    with-before (oneOf (fourFrom list i)) row clients first (omega (arith, e, with-most so-far row clients))
+    ∙ (rw e (sym (with-or row clients so-far (oneOf (fourFrom list i))))
     ∙ with-agree row clients (λ x. so-far x || oneOf (fourFrom list i) x) (λ x. member x (take (i + 4) list))
-    (λ x. rw (take-add, member-append, four-members x (drop i list) some-left) (simp (getD-drop, add-zero)))
+    (λ x. rw (take-add, member-append, four-members x (drop i list) some-left) (simp (getD-drop, add-zero))))

@@ -1,4 +1,5 @@
 pub mod Firsts
+pub mod Cuts
 pub mod Fours
 pub mod Opponents
 pub mod Opposers

@@ -19,8 +19,12 @@ otherOf firsts seconds c i = otherClient (getD firsts i 0) (getD seconds i 0) c
 unfoldable pub opponents : List ℕ → List ℕ → ℕ → ℕ → List ℕ
 opponents firsts seconds c n = map (otherOf firsts seconds c) (those (names firsts seconds c) n)
 
--- A list with room for 32 begins with them all, and n says how many they are; or n is above 32, and so is their number.
+-- How many opponents are listed at most.
+abbrev pub most : ℕ
+most = 32
+
+-- A list of that length begins with them all, and n says how many they are; or n is above it, and so is their number.
 pub record Gathered (all list : List ℕ) (n : ℕ) : Type 0 where
-  pub room : length list ≡ 32
-  pub held : n ≤ 32 → take n list ≡ all
-  pub more : 32 < n → 32 < length all
+  pub room : length list ≡ most
+  pub held : n ≤ most → take n list ≡ all
+  pub more : most < n → most < length all

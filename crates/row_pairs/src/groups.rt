@@ -7,6 +7,7 @@ ghost use mathlib.Core.Bool.{_&&_};
 ghost use lib.ListN.{length, take, getD};
 ghost use Rattle.vocabulary.specs.Those.{some};
 ghost use Rattle.policy.specs.Rules.{canRead};
+ghost use Rattle.row_pairs.specs.Opponents.{most};
 ghost use Rattle.row_pairs.specs.Among.{oneOf, allWith, firstWith, fourFrom, firstAmong};
 
 // Four clients, sought at once.
@@ -28,16 +29,6 @@ fn readable_of(cell: u8, x: ClientNo, g: Four) -> bool
     ensures { λ r. ⌜ r ≡ canRead cell && oneOf g (x .0) ⌝ }
 {
     (cell % 2 == 1) & one_of(x, g)
-}
-
-// The smaller of two numbers.
-fn smaller(a: usize, b: usize) -> usize
-    ensures { λ r. ⌜ r ≡ min a b ⌝ }
-{
-    if b < a {
-        return b;
-    }
-    a
 }
 
 // Whether the row has a readable folder of one of four clients. Without a branch in the loop, so that it goes over several folders at once.
@@ -73,20 +64,48 @@ fn first_of(row: &[u8], clients: &[u16], g: Four) -> usize
     f
 }
 
-// The same. Mostly there is no such folder, and one look over all says so.
+// The smaller of two numbers.
+fn smaller(a: usize, b: usize) -> usize
+    ensures { λ r. ⌜ r ≡ min a b ⌝ }
+{
+    if b < a {
+        return b;
+    }
+    a
+}
+
+// The same, sought by blocks of 32 folders: folder by folder only in the first block that has such a folder.
+fn locate(row: &[u8], clients: &[u16], g: Four) -> usize
+    requires { ⌜ length (now clients) ≡ length (now row) ⌝ }
+    ensures { λ r. ⌜ r ≡ firstWith (oneOf g) (now (row .entry)) (now (clients .entry)) ⌝ }
+{
+    let mut start = 0;
+    while start < row.len() {
+        let end = smaller(start + 32, row.len());
+        let block_row = &row[start..end];
+        let block_clients = &clients[start..end];
+        if any_of(block_row, block_clients, g) {
+            return start + first_of(block_row, block_clients, g);
+        }
+        start = end;
+    }
+    start
+}
+
+// The same. Mostly there is no such folder, and one look over the whole row says so quickest.
 fn find_of(row: &[u8], clients: &[u16], g: Four) -> usize
     requires { ⌜ length (now clients) ≡ length (now row) ⌝ }
     ensures { λ r. ⌜ r ≡ firstWith (oneOf g) (now (row .entry)) (now (clients .entry)) ⌝ }
 {
     if any_of(row, clients, g) {
-        return first_of(row, clients, g);
+        return locate(row, clients, g);
     }
     row.len()
 }
 
 // The listed client at a place, or `otherwise` past the n listed ones.
 fn at_or(list: &[u16; 32], n: usize, place: usize, otherwise: ClientNo) -> ClientNo
-    requires { ⌜ (n ≤ 32) × (length (now list) ≡ 32) ⌝ }
+    requires { ⌜ (n ≤ most) × (length (now list) ≡ most) ⌝ }
     ensures { λ r. ⌜ r .0 ≡ getD (take n (now (list .entry))) place (otherwise .0) ⌝ }
 {
     if place < n {
@@ -97,7 +116,7 @@ fn at_or(list: &[u16; 32], n: usize, place: usize, otherwise: ClientNo) -> Clien
 
 // The four clients from a place on, the first of them again where there are fewer.
 fn four_from(list: &[u16; 32], n: usize, place: usize) -> Four
-    requires { ⌜ (n ≤ 32) × (length (now list) ≡ 32) × (place < n) ⌝ }
+    requires { ⌜ (n ≤ most) × (length (now list) ≡ most) × (place < n) ⌝ }
     ensures { λ r. ⌜ r ≡ fourFrom (take n (now (list .entry))) place ⌝ }
 {
     let a = ClientNo(list[place]);
@@ -107,16 +126,16 @@ fn four_from(list: &[u16; 32], n: usize, place: usize) -> Four
     Four(a, b, c, d)
 }
 
-// The first readable folder of one of the n listed clients, or the row's length.
+// The first readable folder of one of the n listed clients, or the row's length. Each group is sought only before the first find so far.
 pub(crate) fn first_among(row: &[u8], clients: &[u16], list: &[u16; 32], n: usize) -> usize
-    requires { ⌜ (length (now clients) ≡ length (now row)) × (n ≤ 32) × (length (now list) ≡ 32) ⌝ }
+    requires { ⌜ (length (now clients) ≡ length (now row)) × (n ≤ most) × (length (now list) ≡ most) ⌝ }
     ensures { λ r. ⌜ r ≡ firstAmong (take n (now (list .entry))) (now (row .entry)) (now (clients .entry)) ⌝ }
 {
     let mut first = row.len();
     let mut i = 0;
     while i < n {
         let g = four_from(list, n, i);
-        first = smaller(first, find_of(row, clients, g));
+        first = find_of(&row[0..first], &clients[0..first], g);
         i += 4;
     }
     first

@@ -3,7 +3,7 @@ use ids::ClientNo;
 ghost use mathlib.Core.Path.{_≡_};
 ghost use lib.ListN.{length};
 ghost use Rattle.vocabulary.specs.Those.{those, some};
-ghost use Rattle.row_pairs.specs.Opponents.{names, opponents, Gathered};
+ghost use Rattle.row_pairs.specs.Opponents.{names, opponents, most, Gathered};
 
 // Whether any pair names the client. Without a branch in the loop, so that it goes over several pairs at once.
 pub(crate) fn any_named(firsts: &[u16], seconds: &[u16], client: ClientNo) -> bool
@@ -28,7 +28,7 @@ pub(crate) fn list_opponents(
     client: ClientNo,
     list: &mut [u16; 32],
 ) -> usize
-    requires { ⌜ (length (now firsts) ≡ length (now seconds)) × (length (now list) ≡ 32) ⌝ }
+    requires { ⌜ (length (now firsts) ≡ length (now seconds)) × (length (now list) ≡ most) ⌝ }
     ensures { λ r. ⌜ Gathered (opponents (now (firsts .entry)) (now (seconds .entry)) (client .0) (length (now (firsts .entry)))) (now (list .exit)) r ⌝ }
 {
     let mut n = 0;

@@ -8,8 +8,8 @@ use Rattle.row_pairs.proofs.groups.find_of.Tie as tie
 any-of-requires : tie.Need-any-of-requires
 any-of-requires c κs = search needs
 
-first-of-requires : tie.Need-first-of-requires
-first-of-requires c κs = search needs
+locate-requires : tie.Need-locate-requires
+locate-requires c κs = search needs
 
 returns : tie.Need-returns
 returns c = search needs
@@ -19,4 +19,4 @@ returns-2 c =
     first-absent _ _ _ (sym (c .before .any-of .ensures) ∙ c .if1 .left)
 
 pub find-of-spec : {M : Type 1} → statement M
-find-of-spec = tie.close (tie.spec any-of-requires first-of-requires returns returns-2)
+find-of-spec = tie.close (tie.spec any-of-requires locate-requires returns returns-2)

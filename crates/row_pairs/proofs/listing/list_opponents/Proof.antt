@@ -6,14 +6,14 @@ use native.Mathlib.Omega.{arith}
 use lib.ListN.{length, take, length-set}
 use borrow.Author.Needs.{needs}
 use Rattle.vocabulary.specs.Those.{those}
-use Rattle.row_pairs.specs.Opponents.{opponents}
+use Rattle.row_pairs.specs.Opponents.{opponents, most}
 use Rattle.row_pairs.proofs.Opponents.{opponents-skip, opponents-store, opponents-past}
 use Rattle.row_pairs.proofs.listing.list_opponents.Statement.{statement}
 use Rattle.row_pairs.proofs.listing.list_opponents.Tie as tie
 
 abbrev Inv-loop : tie.InvT-loop
 Inv-loop firsts seconds client list₀ n₀ i₀ list n i =
-    (i ≤ length firsts) × (n ≤ 32) × (length list ≡ 32) × (take n list ≡ opponents firsts seconds (client .0) i)
+    (i ≤ length firsts) × (n ≤ most) × (length list ≡ most) × (take n list ≡ opponents firsts seconds (client .0) i)
 
 abbrev μ-loop : tie.MeasureT-loop
 μ-loop firsts seconds client list₀ n₀ i₀ list n i = length firsts - i
