@@ -7,7 +7,7 @@ use native.Mathlib.Omega.{arith}
 use native.Mathlib.Decide.{ℕ-discrete}
 use lib.Bits.{bitOr}
 use lib.Dec.{eqb}
-use lib.ListN.{getD, set, replicate, length-set, length-replicate}
+use lib.ListN.{length, getD, set, replicate, length-set, length-replicate}
 use lib.Seq.{getD-set-same, getD-set-other}
 use borrow.Author.Tests.{eq-eqb, ne-eqb}
 use Rattle.vocabulary.specs.Those.{those}
@@ -99,7 +99,9 @@ module _
   word = bitOr (getD bits place 0) (getD wanted n 0 * 2 ^ (o % 64) % 2 ^ 64)
 
   own-word : (x : ℕ) → x / 64 ≡ o / 64 → marked blocks (set bits place word) x ≡ (marked blocks bits x || wantedAt others wanted x n)
-  own-word x e = rw (e, getD-set-same bits place word 0 (omega (arith, added .words, s .within (o / 64))), hasBit-or, hasBit-moved (getD wanted n 0) (o % 64) (x % 64) flag (omega arith), in-block o x (sym e))
+  own-word x e =
+      let room : place < length bits = omega (arith, added .words, s .within (o / 64)) in
+      rw (e, getD-set-same bits place word 0 room, hasBit-or, hasBit-moved (getD wanted n 0) (o % 64) (x % 64) flag (omega arith), in-block o x (sym e))
 
   other-word : (x : ℕ) → (x / 64 ≡ o / 64 → ⊥) → marked blocks (set bits place word) x ≡ (marked blocks bits x || wantedAt others wanted x n)
   other-word x d =

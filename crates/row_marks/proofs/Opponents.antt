@@ -6,7 +6,7 @@ use mathlib.Core.List.{List, []}
 use native.Mathlib.Omega.{arith}
 use native.Mathlib.Decide.{ℕ-discrete}
 use lib.Dec.{eqb, leb}
-use lib.ListN.{length, getD, set, replicate, length-set, length-replicate}
+use lib.ListN.{length, getD, set, length-set}
 use lib.Seq.{getD-set-same, getD-set-other}
 use mir.Val.{boolByte}
 use borrow.Author.Tests.{eqb-true, leb-true}
@@ -37,16 +37,6 @@ named-between a b c x = at (eqb a c) (eqb b c) refl refl
     at false true e f = rw (e, f, and-true, or-false)
     at false false e f = rw (e, f, and-false)
 
--- No pair is listed yet.
-pub listed-none : (firsts seconds : List ℕ) (c : ℕ) → Listed firsts seconds c (replicate 256 0) (replicate 256 0) 0
-listed-none firsts seconds c =
-    record {
-      others-long = length-replicate {A = ℕ} 256 0;
-      wanted-long = length-replicate {A = ℕ} 256 0;
-      clients = λ i h. absurd (omega arith);
-      flags = λ i h. absurd (omega arith);
-    }
-
 -- One pair more is listed.
 pub listed-more :
     (firsts seconds : List ℕ) (c : ℕ) (others wanted : List ℕ) (n : ℕ) → n < 256 → Listed firsts seconds c others wanted n →
@@ -59,7 +49,7 @@ listed-more firsts seconds c others wanted n room l =
       flags = filled (λ i. boolByte (namesClient (getD firsts i 0) (getD seconds i 0) c)) wanted n (omega (arith, l .wanted-long)) (l .flags);
     }
 
--- What is listed of a pair's naming is 0 or 1, and says whether it does.
+-- What is listed beside a pair's client is 0 or 1.
 pub listed-flags : (firsts seconds : List ℕ) (c : ℕ) (others wanted : List ℕ) (n : ℕ) → Listed firsts seconds c others wanted n → Flags wanted n
 listed-flags firsts seconds c others wanted n l i h = rw (l .flags i h) (small (namesClient (getD firsts i 0) (getD seconds i 0) c))
   where
@@ -67,6 +57,7 @@ listed-flags firsts seconds c others wanted n l i h = rw (l .flags i h) (small (
     small true = omega arith
     small false = omega arith
 
+-- It is 1 where the pair names the client.
 is-one : (t : Bool) → eqb (boolByte t) 1 ≡ t
 is-one true = refl
 is-one false = refl

@@ -28,6 +28,11 @@ hasBit-or a b k =
     at (suc zero) q h g = rw (max-eq-left {n = 1} {m = q} (omega arith))
     at (suc (suc p)) q h g = absurd (omega arith)
 
+-- Two numbers put together are odd if one is.
+pub odd-or : (a b : ℕ) → eqb (bitOr a b % 2) 1 ≡ (eqb (a % 2) 1 || eqb (b % 2) 1)
+unfolding hasBit
+odd-or a b = rw (div-one (bitOr a b), div-one a, div-one b) at (hasBit-or a b 0)
+
 hasBit-power : (j k : ℕ) → hasBit (2 ^ j) k ≡ eqb j k
 unfolding hasBit
 hasBit-power zero zero = refl

@@ -1,6 +1,8 @@
 // The clients in conflict by pairs with one client, marked in three passes over the pairs. None branches on what a list holds, since such a branch is
 // often guessed wrong.
-use crate::client_set::{bit_of, block_of, word_of};
+use crate::client_set::bit_of;
+use crate::client_set::block_of;
+use crate::client_set::word_of;
 use ids::ClientNo;
 ghost use Prim.Native.Nat.{_≤_};
 ghost use mathlib.Core.Path.{_≡_};

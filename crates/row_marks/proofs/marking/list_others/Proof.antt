@@ -1,3 +1,4 @@
+-- `list_others` meets its contract: the pairs passed are listed.
 use Prim.Native.Nat.{_≤_, _-_}
 use mathlib.Core.Path.{_≡_}
 use lib.ListN.{length}
@@ -7,10 +8,6 @@ use native.Mathlib.Omega.{arith}
 use borrow.Author.Needs.{needs}
 use Rattle.row_marks.proofs.marking.list_others.Statement.{statement}
 use Rattle.row_marks.proofs.marking.list_others.Tie as tie
-use Rattle.row_marks.proofs.marking.list_others.Reads as reads
-use Rattle.row_marks.proofs.marking.list_others.Lts as lts
-use Rattle.register_pairs.proofs.names.Reads as names-reads
-use Rattle.register_pairs.proofs.other.Reads as other-reads
 
 abbrev Inv-loop : tie.InvT-loop
 Inv-loop firsts seconds client others₀ wanted₀ i₀ others wanted i = (i ≤ length firsts) × Listed firsts seconds (client .0) others wanted i
@@ -18,64 +15,49 @@ Inv-loop firsts seconds client others₀ wanted₀ i₀ others wanted i = (i ≤
 abbrev μ-loop : tie.MeasureT-loop
 μ-loop firsts seconds client others₀ wanted₀ i₀ others wanted i = length firsts - i
 
--- src/marking.rt:22:5
 loop-holds : tie.Need-loop-holds Inv-loop μ-loop
 loop-holds c = search needs
 
--- src/marking.rt:23:30
 mul-t10 : tie.Need-mul-t10 Inv-loop μ-loop
 mul-t10 c = search needs
 
--- src/marking.rt:23:30
 shared-slice-read-t13 : tie.Need-shared-slice-read-t13 Inv-loop μ-loop
 shared-slice-read-t13 c = search needs
 
--- src/marking.rt:24:31
 mul-t10-2 : tie.Need-mul-t10-2 Inv-loop μ-loop
 mul-t10-2 c = search needs
 
--- src/marking.rt:24:31
 shared-slice-read-t13-2 : tie.Need-shared-slice-read-t13-2 Inv-loop μ-loop
 shared-slice-read-t13-2 c = search needs
 
--- src/marking.rt:25:13
 other-requires : tie.Need-other-requires Inv-loop μ-loop
 other-requires c κs = search needs
 
--- src/marking.rt:26:9
 mul-others : tie.Need-mul-others Inv-loop μ-loop
 mul-others c = search needs
 
--- src/marking.rt:26:9
 element-write-others : tie.Need-element-write-others Inv-loop μ-loop
 element-write-others c = search needs
 
--- src/marking.rt:27:21
 names-requires : tie.Need-names-requires Inv-loop μ-loop
 names-requires c κs = search needs
 
--- src/marking.rt:27:21
 cast-wanted : tie.Need-cast-wanted Inv-loop μ-loop
 cast-wanted c = search needs
 
--- src/marking.rt:27:9
 element-write-wanted : tie.Need-element-write-wanted Inv-loop μ-loop
 element-write-wanted c = search needs
 
--- src/marking.rt:28:9
 add-i : tie.Need-add-i Inv-loop μ-loop
 add-i c = search needs
 
--- src/marking.rt:22:5
 loop-less : tie.Need-loop-less Inv-loop μ-loop
 loop-less c = search needs
 
--- src/marking.rt:22:5
 loop-again : tie.Need-loop-again Inv-loop μ-loop
 loop-again c =
     (omega arith, rw (c .before .other .ensures, c .names .ensures) (listed-more _ _ _ _ _ _ (omega arith) (c .before .before .before .before .before .loop .inv .1)))
 
--- src/marking.rt:11:1
 returns : tie.Need-returns Inv-loop μ-loop
 returns c =
     let end : c .before .loop .i ≡ length (c .before .before .before .before .args .firsts .now) = omega arith in rw (← end) (c .before .loop .inv .1)

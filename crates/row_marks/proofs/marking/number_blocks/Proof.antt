@@ -1,3 +1,4 @@
+-- `number_blocks` meets its contract: the blocks of the clients passed are numbered.
 use Prim.Native.Nat.{_≤_, _-_}
 use mathlib.Core.Path.{_≡_}
 use Rattle.row_marks.specs.Marks.{Numbered}
@@ -6,9 +7,6 @@ use native.Mathlib.Omega.{arith}
 use borrow.Author.Needs.{needs}
 use Rattle.row_marks.proofs.marking.number_blocks.Statement.{statement}
 use Rattle.row_marks.proofs.marking.number_blocks.Tie as tie
-use Rattle.row_marks.proofs.marking.number_blocks.Reads as reads
-use Rattle.row_marks.proofs.marking.number_blocks.Lts as lts
-use Rattle.row_marks.proofs.client_set.block_of.Reads as block-of-reads
 
 abbrev Inv-loop : tie.InvT-loop
 Inv-loop others n blocks₀ i₀ blocks i = (i ≤ n) × Numbered others blocks i
@@ -16,52 +14,40 @@ Inv-loop others n blocks₀ i₀ blocks i = (i ≤ n) × Numbered others blocks 
 abbrev μ-loop : tie.MeasureT-loop
 μ-loop others n blocks₀ i₀ blocks i = n - i
 
--- src/marking.rt:38:5
 loop-holds : tie.Need-loop-holds Inv-loop μ-loop
 loop-holds c = search needs
 
--- src/marking.rt:39:39
 mul-blocks : tie.Need-mul-blocks Inv-loop μ-loop
 mul-blocks c = search needs
 
--- src/marking.rt:39:39
 element-copy-out-blocks : tie.Need-element-copy-out-blocks Inv-loop μ-loop
 element-copy-out-blocks c = search needs
 
--- src/marking.rt:39:13
 block-of-requires : tie.Need-block-of-requires Inv-loop μ-loop
 block-of-requires c κs = search needs
 
--- src/marking.rt:40:26
 add-blocks : tie.Need-add-blocks Inv-loop μ-loop
 add-blocks c = search needs
 
--- src/marking.rt:40:25
 cast-blocks : tie.Need-cast-blocks Inv-loop μ-loop
 cast-blocks c = search needs
 
--- src/marking.rt:40:9
 mul-blocks-2 : tie.Need-mul-blocks-2 Inv-loop μ-loop
 mul-blocks-2 c = search needs
 
--- src/marking.rt:40:9
 element-write-blocks : tie.Need-element-write-blocks Inv-loop μ-loop
 element-write-blocks c = search needs
 
--- src/marking.rt:41:9
 add-i : tie.Need-add-i Inv-loop μ-loop
 add-i c = search needs
 
--- src/marking.rt:38:5
 loop-less : tie.Need-loop-less Inv-loop μ-loop
 loop-less c = search needs
 
--- src/marking.rt:38:5
 loop-again : tie.Need-loop-again Inv-loop μ-loop
 loop-again c =
     (omega arith, rw (c .block-of .ensures .0) (numbered-more _ _ _ (rw (← c .block-of .ensures .0) (c .block-of .ensures .1)) (c .before .before .before .loop .inv .1)))
 
--- src/marking.rt:33:1
 returns : tie.Need-returns Inv-loop μ-loop
 returns c =
     let end : c .before .loop .i ≡ c .before .before .args .n = omega arith in rw (← end) (c .before .loop .inv .1)
