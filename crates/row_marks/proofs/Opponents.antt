@@ -1,21 +1,31 @@
--- Laws of the pass over the pairs: a pair that names the client adds the other one, and after all pairs the marked are those in conflict with it.
-use Prim.Native.Nat.{ℕ, _+_, _≤_}
-use mathlib.Core.Path.{_≡_, refl}
+-- Laws of the passes over the pairs: what is listed of each pair, and that after all passes the marked clients are those in conflict.
+use Prim.Native.Nat.{ℕ, _+_, _≤_, _<_}
+use mathlib.Core.Path.{_≡_, refl, ap, _∙_}
 use mathlib.Core.Bool.{Bool, true, false, _&&_, _||_, and-true, and-false, or-false, or-self}
-use mathlib.Core.List.{List}
+use mathlib.Core.List.{List, []}
+use native.Mathlib.Omega.{arith}
+use native.Mathlib.Decide.{ℕ-discrete}
 use lib.Dec.{eqb, leb}
-use lib.ListN.{length, getD, replicate}
+use lib.ListN.{length, getD, set, length-set}
+use lib.Seq.{getD-set-same, getD-set-other}
+use mir.Val.{boolByte}
 use borrow.Author.Tests.{eqb-true, leb-true}
-use Rattle.vocabulary.specs.Those.{those}
-use Rattle.vocabulary.proofs.Those.{those-agree, some-those-suc}
+use Rattle.vocabulary.specs.Those.{some}
+use Rattle.vocabulary.proofs.Those.{those-agree}
 use Rattle.vocabulary.proofs.Bools.{both}
-use Rattle.register.specs.Register.{Register, pairs, clientOf}
-use Rattle.policy.specs.Conflict.{paired}
-use Rattle.register_pairs.specs.Pair.{namesClient, otherClient}
-use Rattle.row_marks.specs.Marks.{Grown, Marked, fitted, readMarked, firstRead}
-use Rattle.register_pairs.specs.Pair.{pairsFit}
+use Rattle.register.specs.Register.{Register, registerBy, pairs, clientOf}
+use Rattle.policy.specs.Conflict.{pairNames, paired}
+use Rattle.register_pairs.specs.Pair.{namesClient, otherClient, pairsFit}
+use Rattle.row_marks.specs.Marks.{Listed, Flags, Numbered, Added, Marked, wantedAt, fitted, readMarked, firstRead}
 use Rattle.row_marks.specs.Opposed.{opposed, opposers, firstOpposer}
-use Rattle.row_marks.proofs.Marks.{empty-sparse, empty-marked}
+
+-- A list that is filled from its start has one entry more.
+filled : (f : ℕ → ℕ) (l : List ℕ) (n : ℕ) → n < length l → ((i : ℕ) → i < n → getD l i 0 ≡ f i) → (i : ℕ) → i < n + 1 → getD (set l n (f n)) i 0 ≡ f i
+filled f l n room h i g =
+    elim (ℕ-discrete i n) [
+      | yes e ↦ rw (e, getD-set-same l n (f n) 0 room)
+      | no d ↦ getD-set-other l n i (f n) 0 d ∙ h i (omega arith)
+    ]
 
 -- Of a pair that names c, the other client is the one that it names beside c.
 named-between : (a b c x : ℕ) → (namesClient a b c && eqb (otherClient a b c) x) ≡ ((eqb a x && eqb b c) || (eqb a c && eqb b x))
@@ -27,26 +37,44 @@ named-between a b c x = at (eqb a c) (eqb b c) refl refl
     at false true e f = rw (e, f, and-true, or-false)
     at false false e f = rw (e, f, and-false)
 
-module _ (firsts seconds : List ℕ) (c : ℕ) where
-  -- Nobody is marked yet.
-  pub marked-none : Marked firsts seconds c (replicate 1024 0) (replicate 257 0) 0
-  unfolding those
-  marked-none =
-      record {
-        sparse = empty-sparse;
-        told = λ x. empty-marked x;
-      }
+-- One pair more is listed.
+pub listed-more :
+    (firsts seconds : List ℕ) (c : ℕ) (others wanted : List ℕ) (n : ℕ) → n < 256 → Listed firsts seconds c others wanted n →
+    Listed firsts seconds c (set others n (otherClient (getD firsts n 0) (getD seconds n 0) c)) (set wanted n (boolByte (namesClient (getD firsts n 0) (getD seconds n 0) c))) (n + 1)
+listed-more firsts seconds c others wanted n room l =
+    record {
+      others-long = length-set others n (otherClient (getD firsts n 0) (getD seconds n 0) c) ∙ l .others-long;
+      wanted-long = length-set wanted n (boolByte (namesClient (getD firsts n 0) (getD seconds n 0) c)) ∙ l .wanted-long;
+      clients = filled (λ i. otherClient (getD firsts i 0) (getD seconds i 0) c) others n (omega (arith, l .others-long)) (l .clients);
+      flags = filled (λ i. boolByte (namesClient (getD firsts i 0) (getD seconds i 0) c)) wanted n (omega (arith, l .wanted-long)) (l .flags);
+    }
 
-  -- One pair more.
-  pub marked-more :
-      (blocks bits blocks' bits' : List ℕ) (n : ℕ) → Marked firsts seconds c blocks bits n →
-      Grown blocks bits blocks' bits' (λ x. namesClient (getD firsts n 0) (getD seconds n 0) c && eqb (otherClient (getD firsts n 0) (getD seconds n 0) c) x) n →
-      Marked firsts seconds c blocks' bits' (n + 1)
-  marked-more blocks bits blocks' bits' n m g =
-      record {
-        sparse = g .sparse;
-        told = λ x. rw (some-those-suc, ← m .told x, ← named-between (getD firsts n 0) (getD seconds n 0) c x) (g .adds x);
-      }
+-- What is listed beside a pair's client is 0 or 1.
+pub listed-flags : (firsts seconds : List ℕ) (c : ℕ) (others wanted : List ℕ) (n : ℕ) → Listed firsts seconds c others wanted n → Flags wanted n
+listed-flags firsts seconds c others wanted n l i h = rw (l .flags i h) (small (namesClient (getD firsts i 0) (getD seconds i 0) c))
+  where
+    small : (t : Bool) → boolByte t ≤ 1
+    small true = omega arith
+    small false = omega arith
+
+-- It is 1 where the pair names the client.
+is-one : (t : Bool) → eqb (boolByte t) 1 ≡ t
+is-one true = refl
+is-one false = refl
+
+-- Where all pairs are listed, and the wanted are added, the clients in conflict are marked.
+pub listed-marked :
+    (firsts seconds : List ℕ) (c : ℕ) (others wanted blocks bits : List ℕ) → length firsts ≤ 256 → Listed firsts seconds c others wanted (length firsts) →
+    Numbered others blocks (length firsts) → Added others wanted blocks bits (length firsts) → Marked firsts seconds c blocks bits
+unfolding paired
+listed-marked firsts seconds c others wanted blocks bits few l s added =
+    record {
+      placed = λ b. omega (arith, s .within b);
+      told = λ x. added .told x ∙ ap some (those-agree (wantedAt others wanted x) (pairNames (registerBy 0 [] [] true firsts seconds) x c) (length firsts) (named x));
+    }
+  where
+    named : (x k : ℕ) → k < length firsts → wantedAt others wanted x k ≡ pairNames (registerBy 0 [] [] true firsts seconds) x c k
+    named x k h = rw (l .clients k h, l .flags k h, is-one) (named-between (getD firsts k 0) (getD seconds k 0) c x)
 
 -- What lists that fit have.
 pub fitted-lengths : (r : Register) (row : List ℕ) → fitted r row ≡ true → (length (r .clients) ≡ length row) × ((pairs r ≡ length (r .seconds)) × (pairs r ≤ 256))
@@ -58,7 +86,7 @@ fitted-lengths r row e =
 
 -- The first folder that is looked for, where the lists fit: the marked clients are those in conflict.
 pub first-fitted :
-    (r : Register) (row blocks bits : List ℕ) (c : ℕ) → fitted r row ≡ true → Marked (r .firsts) (r .seconds) c blocks bits (pairs r) →
+    (r : Register) (row blocks bits : List ℕ) (c : ℕ) → fitted r row ≡ true → Marked (r .firsts) (r .seconds) c blocks bits →
     firstRead row (r .clients) blocks bits ≡ firstOpposer r row c
 unfolding opposers paired
 first-fitted r row blocks bits c e m =

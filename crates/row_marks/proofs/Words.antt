@@ -1,5 +1,5 @@
 -- Laws of words: a word's bits, and those of a word into which one bit was put.
-use Prim.Native.Nat.{ℕ, zero, suc, _*_, _/_, _%_, _^_, _<_, min, max}
+use Prim.Native.Nat.{ℕ, zero, suc, _*_, _/_, _%_, _^_, _≤_, _<_, min, max}
 use mathlib.Core.Path.{_≡_, refl, _∙_}
 use mathlib.Core.Bool.{Bool, true, false, cond, _&&_, _||_, and-true, and-false}
 use native.Mathlib.Omega.{arith}
@@ -8,7 +8,6 @@ use lib.Arith.{digits-mod}
 use lib.Bits.{bitAnd, bitOr, and-step, or-shr, or-step}
 use lib.Dec.{eqb, eqb·zero-suc, eqb·suc-zero, eqb·suc-suc}
 use lib.Pow.{pow-lt, shl-exact}
-use mir.Val.{boolByte}
 use Rattle.row_marks.specs.Marks.{hasBit}
 
 -- The word 0 has no bit.
@@ -29,6 +28,11 @@ hasBit-or a b k =
     at (suc zero) q h g = rw (max-eq-left {n = 1} {m = q} (omega arith))
     at (suc (suc p)) q h g = absurd (omega arith)
 
+-- Two numbers put together are odd if one is.
+pub odd-or : (a b : ℕ) → eqb (bitOr a b % 2) 1 ≡ (eqb (a % 2) 1 || eqb (b % 2) 1)
+unfolding hasBit
+odd-or a b = rw (div-one (bitOr a b), div-one a, div-one b) at (hasBit-or a b 0)
+
 hasBit-power : (j k : ℕ) → hasBit (2 ^ j) k ≡ eqb j k
 unfolding hasBit
 hasBit-power zero zero = refl
@@ -36,15 +40,11 @@ hasBit-power zero (suc k) = rw (div-eq-of-lt {n = 1} {m = 2 ^ suc k} (pow-lt {i 
 hasBit-power (suc j) zero = rw (div-one, pow-suc, mul-mod-left, eqb·suc-zero)
 hasBit-power (suc j) (suc k) = rw (pow-suc 2 j, pow-suc 2 k, mul-div-mul-right {m = 2} (2 ^ j) (2 ^ k) (omega arith), eqb·suc-suc) (hasBit-power j k)
 
--- A power of two, or 0.
-pub hasBit-one : (wanted : Bool) (j k : ℕ) → hasBit (cond wanted (2 ^ j) 0) k ≡ (wanted && eqb j k)
-hasBit-one true j k = hasBit-power j k
-hasBit-one false j k = hasBit-zero k
-
--- A test's 1 or 0, moved up to a place in the word.
-pub moved : (wanted : Bool) (k : ℕ) → k < 64 → (boolByte wanted * 2 ^ k) % 2 ^ 64 ≡ cond wanted (2 ^ k) 0
-moved true k h = shl-exact 1 k 64 (omega arith) (omega arith) ∙ one-mul (2 ^ k)
-moved false k h = rw zero-mul
+-- A 1 or 0, moved up to a place in the word.
+pub hasBit-moved : (flag j k : ℕ) → flag ≤ 1 → j < 64 → hasBit (flag * 2 ^ j % 2 ^ 64) k ≡ (eqb flag 1 && eqb j k)
+hasBit-moved zero j k h g = rw zero-mul (hasBit-zero k)
+hasBit-moved (suc zero) j k h g = rw (shl-exact {a = 1} 1 j 64 (omega arith) (omega arith), one-mul) (hasBit-power j k)
+hasBit-moved (suc (suc flag)) j k h g = absurd (omega arith)
 
 -- What two numbers have in common is odd if both are.
 pub odd-and : (a b : ℕ) → eqb (bitAnd a b % 2) 1 ≡ (eqb (b % 2) 1 && eqb (a % 2) 1)

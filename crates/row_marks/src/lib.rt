@@ -2,18 +2,14 @@
 // is looked up, so that the work grows with folders plus pairs. Lists of any lengths may be given; whether they fit is asked once, before any walk.
 mod client_set; // a set of clients
 mod marking; // the opponents, marked
+mod walk; // the row, folder by folder
 
-use crate::client_set::bits_from;
 use crate::marking::mark_all;
+use crate::walk::first;
 use ids::ClientNo;
-ghost use Prim.Native.Nat.{_%_};
 ghost use mathlib.Core.Path.{_≡_};
-ghost use mathlib.Core.Bool.{_&&_};
-ghost use lib.Dec.{eqb};
-ghost use lib.ListN.{length};
 ghost use Rattle.register.specs.Lent.{lentClients};
-ghost use Rattle.policy.specs.Rules.{canRead};
-ghost use Rattle.row_marks.specs.Marks.{Sparse, fitted, firstRead};
+ghost use Rattle.row_marks.specs.Marks.{fitted};
 ghost use Rattle.row_marks.specs.Opposed.{firstOpposer};
 
 // Whether the clients are of the row's length, and the pairs fit.
@@ -21,30 +17,6 @@ pub fn fits(row: &[u8], clients: &[u16], firsts: &[u16], seconds: &[u16]) -> boo
     ensures { λ r. ⌜ r ≡ fitted (lentClients clients firsts seconds) (now (row .entry)) ⌝ }
 {
     (clients.len() == row.len()) & register_pairs::pairs_fit(firsts, seconds)
-}
-
-// Whether a cell gives the read right and the lowest of the bits is set: one test, on the lowest bit of both.
-fn read_and_marked(cell: u8, bits: u64) -> bool
-    ensures { λ r. ⌜ r ≡ canRead cell && eqb (bits % 2) 1 ⌝ }
-{
-    (bits & cell as u64) % 2 == 1
-}
-
-// The first readable folder of a marked client, or the row's length. What the walk has passed has none.
-fn first(row: &[u8], clients: &[u16], blocks: &[u16; 1024], bits: &[u64; 257]) -> usize
-    requires { ⌜ (length (now clients) ≡ length (now row)) × Sparse (now blocks) (now bits) 256 ⌝ }
-    ensures { λ r. ⌜ r ≡ firstRead (now (row .entry)) (now (clients .entry)) (now (blocks .entry)) (now (bits .entry)) ⌝ }
-{
-    let mut f = 0;
-    while f < row.len() {
-        let cell = row[f];
-        let client = ClientNo(clients[f]);
-        if read_and_marked(cell, bits_from(blocks, bits, client)) {
-            return f;
-        }
-        f += 1;
-    }
-    f
 }
 
 // The first readable folder of a client in conflict by pairs with `client`, or the row's length; that too where the lists do not fit.

@@ -2,15 +2,14 @@
 use Prim.Native.Nat.{ℕ, _≤_}
 use mathlib.Core.Bool.{true}
 use mathlib.Core.List.{List, []}
-use mathlib.Core.Path.{_≡_, sym, _∙_}
+use mathlib.Core.Path.{_≡_, refl, sym, _∙_}
 use lib.ListN.{length}
 use denote.Ref.{now}
 use borrow.Author.Tests.{not-true, not-false}
 use borrow.Author.Needs.{needs}
 use Rattle.register.specs.Register.{Register, registerBy, pairs}
 use Rattle.row_marks.specs.Marks.{fitted}
-use Rattle.row_marks.proofs.Marks.{sparse-more}
-use Rattle.row_marks.proofs.Opponents.{marked-none, fitted-lengths, first-fitted, first-unfitted}
+use Rattle.row_marks.proofs.Opponents.{fitted-lengths, first-fitted, first-unfitted}
 use Rattle.row_marks.proofs.first_marked.Statement.{statement}
 use Rattle.row_marks.proofs.first_marked.Tie as tie
 
@@ -38,12 +37,12 @@ returns c =
 
 mark-all-requires : tie.Need-mark-all-requires
 mark-all-requires c κs =
-    (sizes (c .before .before) .1 .0, (sizes (c .before .before) .1 .1, marked-none _ _ _))
+    (sizes (c .before .before) .1 .0, (sizes (c .before .before) .1 .1, (refl, refl)))
 
 first-requires : tie.Need-first-requires
 first-requires c κs =
     let fitting = sizes (c .before .before .before .before .before) in
-    (fitting .0, sparse-more _ _ _ _ (fitting .1 .1) (c .before .before .mark-all .ensures .sparse))
+    (fitting .0, c .before .before .mark-all .ensures .placed)
 
 returns-2 : tie.Need-returns-2
 returns-2 c =

@@ -1,7 +1,7 @@
 -- `read_and_marked` meets its contract: what both have in common is odd.
 use Rattle.row_marks.proofs.Words.{odd-and}
-use Rattle.row_marks.proofs.read_and_marked.Statement.{statement}
-use Rattle.row_marks.proofs.read_and_marked.Tie as tie
+use Rattle.row_marks.proofs.walk.read_and_marked.Statement.{statement}
+use Rattle.row_marks.proofs.walk.read_and_marked.Tie as tie
 
 returns : tie.Need-returns
 returns c =
