@@ -24,6 +24,6 @@ passed = answer 0 (0 ∷ [])
 unfoldable pub fourToSeven : (p f size : ℕ) → Request → Answer
 fourToSeven p f size q = judge (frontChecks p f size q) passed
 
--- What rows 1 to 7 say.
+-- What rows 1 to 7, with 11 after 3, say.
 unfoldable pub oneToSeven : Register → (size : ℕ) → Request → Answer
 oneToSeven r size q = judge (registerChecks r ++ frontChecks (r .logins) (folders r) size q) passed

@@ -16,7 +16,7 @@ use Rattle.policy.proofs.Accepted.{class-zero, client-zero, one-class, 
 
 -- What the wall's argument asks of a test on folders that tells conflict: it goes both ways, it tells two clients, neither of them 0, and it tells the
 -- same of any other folders of theirs.
-pub record Telling (r : Register) (test : ℕ → ℕ → Bool) : Type 0 where
+pub record ConflictLaws (r : Register) (test : ℕ → ℕ → Bool) : Type 0 where
   pub turned : (f g : ℕ) → test f g ≡ true → test g f ≡ true
   pub two : (f g : ℕ) → test f g ≡ true → clientOf r f ≡ clientOf r g → ⊥
   pub real : (f g : ℕ) → f < folders r → g < folders r → test f g ≡ true → clientOf r f ≡ 0 → ⊥
@@ -34,7 +34,7 @@ module _ (r : Register) where
   pub class-told : (f g : ℕ) → classOf r f ≡ classOf r g → (clientOf r f ≡ clientOf r g → ⊥) → oneClass r f g ≡ true
   class-told f g a d = rw (eq-eqb (classOf r f) (classOf r g) a, ne-eqb (clientOf r f) (clientOf r g) d)
 
-  pub by-classes : Accepted r → Telling r (oneClass r)
+  pub by-classes : Accepted r → ConflictLaws r (oneClass r)
   by-classes ok =
       record {
         turned = λ f g e. let p = class-parts f g e in class-told g f (sym (p .0)) (λ i. p .1 (sym i));
@@ -103,7 +103,7 @@ module _ (r : Register) where
         (λ p. sound (n .place) (n .known) .1 (p .1 ∙ z))
         (n .clients)
 
-    by-pairs : Telling r (λ f g. paired r (clientOf r f) (clientOf r g))
+    by-pairs : ConflictLaws r (λ f g. paired r (clientOf r f) (clientOf r g))
     by-pairs =
         record {
           turned = λ f g e. sym (pairs-turned (clientOf r f) (clientOf r g)) ∙ e;
@@ -115,17 +115,17 @@ module _ (r : Register) where
 -- ---- either
 
 module _ (r : Register) (ok : Accepted r) where
-  pub tells : Telling r (inConflict r)
+  pub tells : ConflictLaws r (inConflict r)
   tells = by (r .byPairs) refl
     where
-      by : (mode : Bool) → r .byPairs ≡ mode → Telling r (λ f g. cond mode (paired r (clientOf r f) (clientOf r g)) (oneClass r f g))
+      by : (mode : Bool) → r .byPairs ≡ mode → ConflictLaws r (λ f g. cond mode (paired r (clientOf r f) (clientOf r g)) (oneClass r f g))
       by true e = by-pairs r ok e
       by false e = by-classes r ok
 
   pub lawful : Lawful (wallOf r)
   lawful =
       record {
-        irreflexive = λ c p. tells .two (p .one) (p .other) (p .clash) (p .one-client ∙ sym (p .other-client));
+        irreflexive = λ c p. tells .two (p .one) (p .other) (p .folders-conflict) (p .one-client ∙ sym (p .other-client));
         symmetric = λ c d p.
             record {
               one = p .other;
@@ -134,9 +134,9 @@ module _ (r : Register) (ok : Accepted r) where
               other-known = p .one-known;
               one-client = p .other-client;
               other-client = p .one-client;
-              clash = tells .turned (p .one) (p .other) (p .clash);
+              folders-conflict = tells .turned (p .one) (p .other) (p .folders-conflict);
             };
-        real = λ c d p z. tells .real (p .one) (p .other) (p .one-known) (p .other-known) (p .clash) (p .one-client ∙ z);
+        real = λ c d p z. tells .real (p .one) (p .other) (p .one-known) (p .other-known) (p .folders-conflict) (p .one-client ∙ z);
       }
 
   -- Two folders are of clients in conflict just where these are.
@@ -149,9 +149,9 @@ module _ (r : Register) (ok : Accepted r) where
         other-known = i;
         one-client = refl;
         other-client = refl;
-        clash = e;
+        folders-conflict = e;
       }
 
   pub conflict-told : (f g : ℕ) → f < folders r → g < folders r → Conflict r (clientOf r f) (clientOf r g) → inConflict r f g ≡ true
   conflict-told f g h i p =
-      tells .alike (p .one) (p .other) f g (p .one-known) (p .other-known) h i (p .one-client) (p .other-client) (p .clash)
+      tells .alike (p .one) (p .other) f g (p .one-known) (p .other-known) h i (p .one-client) (p .other-client) (p .folders-conflict)

@@ -7,6 +7,7 @@ pub mod Outcome
 pub mod Shown
 pub mod Demand3
 pub mod Papers
+pub mod Unread
 pub mod Modes
 pub mod Written
 pub mod Session

@@ -16,13 +16,13 @@ use Rattle.policy.specs.Rules.{rowOf, cell, canRead, rivals, foreigners,
 use Rattle.policy.specs.Outcome.{Request, Log, requestChecks, wallChecks, wallAnswer, decision, outcome}
 use Rattle.policy.specs.Modes.{inPairs, WrittenOut, SameByPairs}
 use Rattle.policy.proofs.Accepted.{passed}
-use Rattle.policy.proofs.Conflict.{Telling, by-classes, Named, pair-named}
+use Rattle.policy.proofs.Conflict.{ConflictLaws, by-classes, Named, pair-named}
 
 module _ (r : Register) (ok : Accepted r) (mode : r .byPairs ≡ false) (firsts seconds : List ℕ) (w : WrittenOut r firsts seconds) where
   abbrev p : Register
   p = inPairs r firsts seconds
 
-  classes : Telling r (oneClass r)
+  classes : ConflictLaws r (oneClass r)
   classes = by-classes r ok
 
   -- A pair names just two clients of one class.
@@ -61,7 +61,7 @@ module _ (r : Register) (ok : Accepted r) (mode : r .byPairs ≡ false) (firsts 
   pairs-pass : badPairs p ≡ false
   unfolding badPairs
   pairs-pass =
-      rw (eq-eqb (length firsts) (length seconds) (w .even), le-ltb 256 (length firsts) (w .few), those-never (badPair p) (length firsts) no-bad-pair)
+      rw (eq-eqb (length firsts) (length seconds) (w .equal), le-ltb 256 (length firsts) (w .few), those-never (badPair p) (length firsts) no-bad-pair)
 
   pass : Passed (registerChecks p)
   unfolding registerChecks later earlier

@@ -15,7 +15,7 @@ use Rattle.vocabulary.proofs.Bools.{both, either, not-both, true-or-false, eqb-
 use Rattle.register.specs.Register.{Register, folders, clientOf, pairs}
 use Rattle.policy.specs.Conflict.{oneClass, pairNames, paired}
 use Rattle.policy.specs.Modes.{inPairs, OneClassOf, newClient, facing, writtenFirsts, writtenSeconds, CanBeWritten}
-use Rattle.policy.proofs.Conflict.{Telling, by-classes, pairs-turned}
+use Rattle.policy.proofs.Conflict.{ConflictLaws, by-classes, pairs-turned}
 
 -- ---- pairs in two lists
 
@@ -180,13 +180,13 @@ stands-paired r firsts seconds c d s = by (true-or-false (some (those (pairNames
 pub can-be-written : CanBeWritten
 can-be-written r ok few =
     record {
-      even = written-even r (folders r);
+      equal = written-even r (folders r);
       few = few;
       sound = λ i h. stands-class r (folders r) _ _ (omega arith) (place-stands (writtenFirsts r (folders r)) (writtenSeconds r (folders r)) i (written-even r (folders r)) h);
       whole = whole;
     }
   where
-    classes : Telling r (oneClass r)
+    classes : ConflictLaws r (oneClass r)
     classes = by-classes r ok
 
     p : Register

@@ -1,15 +1,43 @@
--- The two modes tied together (document 02, C-12): with the pairs of a register by classes written out, pair mode gives class mode's answer to every
--- request on every row.
+-- What tells the two modes apart, and what ties them together (document 02, C-12): neither looks at what the other goes by; and with the pairs of a
+-- register by classes written out, pair mode gives class mode's answer to every request on every row.
 use Prim.Native.Nat.{ℕ, zero, suc, _≤_, _<_}
 use mathlib.Core.Path.{_≡_}
 use mathlib.Core.Bool.{Bool, true, false, cond, not, _&&_}
-use mathlib.Core.List.{List, [], _++_, map}
+use mathlib.Core.List.{List, [], _∷_, _++_, map}
 use lib.ListN.{length, getD, replicate}
 use lib.Dec.{eqb}
 use Rattle.vocabulary.specs.Those.{those, some}
 use Rattle.register.specs.Register.{Register, registerBy, folders, clientOf, Accepted}
 use Rattle.policy.specs.Conflict.{oneClass, paired}
+use Rattle.register.specs.Claims.{inClasses}
 use Rattle.policy.specs.Outcome.{Request, Log, outcome}
+use Rattle.policy.specs.Session.{serialLine, session, request, newLog}
+
+-- ---- what each mode goes by
+
+-- The same register with other classes.
+abbrev pub withClasses : Register → List ℕ → Register
+withClasses r classes = registerBy (r .logins) classes (r .clients) (r .byPairs) (r .firsts) (r .seconds)
+
+pub record Unread : Type 0 where
+  -- By classes the pairs play no part, malformed or not.
+  pub pairs : (r : Register) → r .byPairs ≡ false →
+      (matrix : List ℕ) (q : Request) (log : Log) → outcome r matrix q log ≡ outcome (inClasses r) matrix q log
+  -- By pairs the classes play no part beyond refusals 1 to 3.
+  pub classes : (r : Register) (classes : List ℕ) → r .byPairs ≡ true → length classes ≡ folders r → Accepted r → Accepted (withClasses r classes) →
+      (matrix : List ℕ) (q : Request) (log : Log) → outcome r matrix q log ≡ outcome (withClasses r classes) matrix q log
+
+-- 'Two readers may each conflict with one author, not with each other': folder 0 is the author's, client 7, folders 1 and 2 are the readers', 8 and 9,
+-- all of one class. Either reader's folder may be read beside the other's, and the author's beside neither.
+abbrev pub readersRegister : Register
+readersRegister = registerBy 1 (1 ∷ 1 ∷ 1 ∷ []) (7 ∷ 8 ∷ 9 ∷ []) true (7 ∷ 9 ∷ []) (8 ∷ 7 ∷ [])
+
+abbrev pub TwoReaders : Type 0
+TwoReaders =
+    session readersRegister (replicate 3 0) newLog (request 1 0 1 ∷ request 1 0 2 ∷ request 1 0 0 ∷ []) .lines
+    ≡ serialLine 0 0 [] ∷ serialLine 1 0 [] ∷ serialLine 2 20 (1 ∷ []) ∷ []
+
+-- ---- a register by classes, written out
 
 -- The same logins and folders, by these pairs.
 abbrev pub inPairs : Register → List ℕ → List ℕ → Register
@@ -25,10 +53,10 @@ pub record OneClassOf (r : Register) (c d : ℕ) : Type 0 where
   pub other-client : clientOf r other ≡ d
   pub alike : oneClass r one other ≡ true
 
--- At most 256 pairs that write out a register's classes, in any order, each way round, also repeated: each is of two clients of one class, and every two
--- clients of one class are a pair.
+-- At most 256 pairs that write out a register's classes, in any order, each either way round, also repeated: each is of two clients of one class, and
+-- every two clients of one class stand in some pair.
 pub record WrittenOut (r : Register) (firsts seconds : List ℕ) : Type 0 where
-  pub even : length firsts ≡ length seconds
+  pub equal : length firsts ≡ length seconds
   pub few : length firsts ≤ 256
   pub sound : (i : ℕ) → i < length firsts → OneClassOf r (getD firsts i 0) (getD seconds i 0)
   pub whole : (f g : ℕ) → f < folders r → g < folders r → oneClass r f g ≡ true → paired (inPairs r firsts seconds) (clientOf r f) (clientOf r g) ≡ true
@@ -45,7 +73,7 @@ SameByPairs =
 abbrev pub newClient : Register → ℕ → Bool
 newClient r f = not (some (those (λ g. eqb (clientOf r g) (clientOf r f)) f))
 
--- The first folders of the clients that f, where it is its client's first, is in one class with.
+-- Where f is its client's first folder: the earlier first folders of the other clients of its class.
 unfoldable pub facing : Register → ℕ → List ℕ
 facing r f = cond (newClient r f) (those (λ g. newClient r g && oneClass r g f) f) []
 

@@ -1,4 +1,4 @@
--- What a request answers and leaves (document 01, 'Where each refusal is checked').
+-- What a request answers and leaves (document 01, 'Where each refusal is checked'; document 02, C-12, for 11).
 use Prim.Native.Nat.{ℕ, _+_, _-_, _*_}
 use mathlib.Core.Bool.{Bool, cond, not, _&&_, _||_}
 use mathlib.Core.List.{List, [], _∷_, _++_}

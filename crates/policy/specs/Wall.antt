@@ -105,7 +105,8 @@ pub record Strayed (w : Wall) (h : Held) : Type 0 where
   pub holds : h .folder folder client
   pub not-own : Own w folder client → ⊥
 
--- 'The wall is broken if a login holds two clients of one class', by document 02, C-12, 'two clients in conflict', 'or a folder a client not its own'.
+-- The wall is broken if a login holds 'two clients in conflict' (document 02, C-12; in document 01 'two clients of one class'), 'or a folder a client not
+-- its own'.
 abbrev pub Broken : Wall → Held → Type 0
 Broken w h = TwoHeld w h ⊎ Strayed w h
 
@@ -125,7 +126,7 @@ Needful w k h s o kind = Breaks w (joined k s o kind) h s
 
 -- ---- the wall of a register
 
--- Clients c and d are in conflict: the register has a folder of each, and these are of clients in conflict, by classes or by pairs.
+-- Clients c and d are in conflict: the register has a folder of each, and `inConflict` holds of these two, by classes or by pairs.
 pub record Conflict (r : Register) (c d : ℕ) : Type 0 where
   pub one : ℕ
   pub other : ℕ
@@ -133,7 +134,7 @@ pub record Conflict (r : Register) (c d : ℕ) : Type 0 where
   pub other-known : other < folders r
   pub one-client : clientOf r one ≡ c
   pub other-client : clientOf r other ≡ d
-  pub clash : inConflict r one other ≡ true
+  pub folders-conflict : inConflict r one other ≡ true
 
 abbrev pub wallOf : Register → Wall
 wallOf r =

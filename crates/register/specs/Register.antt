@@ -49,7 +49,7 @@ clientOf r f = getD (r .clients) f 0
 abbrev pub sanitised : Register → ℕ → Bool
 sanitised r f = eqb (clientOf r f) 0
 
--- P and F within their ranges and lists of equal length; else refusal 1.
+-- P and F within their ranges and the lists of classes and clients of equal length; else refusal 1.
 abbrev pub inRange : Register → Bool
 inRange r = leb 1 (r .logins) && leb (r .logins) 128 && leb 1 (folders r) && leb (folders r) 512 && eqb (folders r) (length (r .clients))
 

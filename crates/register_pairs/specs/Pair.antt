@@ -13,6 +13,6 @@ namesClient a b c = eqb a c || eqb b c
 abbrev pub otherClient : ℕ → ℕ → ℕ → ℕ
 otherClient a b c = cond (eqb a c) b a
 
--- The lists of pairs are of one length and have at most 256 pairs: refusal 11 as far as it concerns their sizes.
+-- The lists of pairs are of one length and have at most 256 pairs; else refusal 11, as far as it concerns their sizes.
 unfoldable pub pairsFit : Register → Bool
 pairsFit r = eqb (pairs r) (length (r .seconds)) && leb (pairs r) 256
