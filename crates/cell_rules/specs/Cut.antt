@@ -1,5 +1,5 @@
--- The rules on one cell and two labels (document 01, 'The four kinds of request'), cut as the code is cut. That over a row they are those of `policy` is
--- proved by `row` and `row_grant`.
+-- The rules on one cell and two labels (document 01, 'The four kinds of request'), cut as the code is cut. That over a row they are those of `policy`
+-- is proved by `row` and `row_grant`.
 use Prim.Native.Nat.{ℕ}
 use mathlib.Core.Bool.{Bool, not, _&&_, _||_}
 use lib.Dec.{eqb}
@@ -8,7 +8,8 @@ use Rattle.policy.specs.Rules.{canRead, canWrite, cellFor, reads, writes, revok
 use Rattle.cell_rules.specs.declared.Sort.{Sort}
 use Rattle.cell_rules.specs.declared.Sort.the-variants.{Rival, Foreign, AtStake}
 
--- Whether a folder with this cell and label is of the sort looked for, where the folder asked for has the label o; a rival by classes (by pairs: `Opposed.antt` of `row_marks`).
+-- Whether a folder with this cell and label is of the sort looked for, where the folder asked for has the label o; a rival by classes (by pairs:
+-- `Opposed.antt` of `row_marks`).
 abbrev pub ofSort : Sort → ℕ → Label → Label → Bool
 ofSort Rival c f o = canRead c && (eqb (f .class .0) (o .class .0) && not (eqb (f .client .0) (o .client .0)))
 ofSort Foreign c f o = canRead c && not (eqb (f .client .0) 0) && not (eqb (f .client .0) (o .client .0))

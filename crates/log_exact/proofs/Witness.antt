@@ -1,6 +1,6 @@
 -- For every well-formed record a request that writes it, by classes or by pairs: 128 logins and 512 folders, of which the record's has class 1 and
--- client 1 and all others client 2, of class 1 for answer 20 and of class 2 otherwise; the pair of 1 and 2 for answer 20, and none otherwise; and rights
--- on just the listed folders, to read for 20 and 21 and to write for 0 and 22.
+-- client 1 and all others client 2, of class 1 for answer 20 and of class 2 otherwise; the pair of 1 and 2 for answer 20, and none otherwise; and
+-- rights on just the listed folders, to read for 20 and 21 and to write for 0 and 22.
 use Prim.Native.Nat.{ℕ, zero, suc, _+_, _-_, _*_, _%_, _≤_, _<_}
 use native.Mathlib.Omega.{arith}
 use mathlib.Core.Path.{_≡_, refl, sym, ap, _∙_}

@@ -1,4 +1,5 @@
-// Rows 1 to 7 of the table, 11 among them after 3: register, matrix and request. Where they are passed the response is a grant, with nothing taken back yet.
+// Rows 1 to 7 of the table, 11 among them after 3: register, matrix and request. Where they are passed the response is a grant, with nothing taken
+// back yet.
 use ids::Request;
 use register_check::Verdict;
 use response::Response;

@@ -14,8 +14,8 @@ use Rattle.policy.specs.Wall.{Conflict, wallOf}
 use Rattle.policy.proofs.Wall.{Lawful}
 use Rattle.policy.proofs.Accepted.{class-zero, client-zero, one-class, pair-sound}
 
--- What the wall's argument asks of a test on folders that tells conflict: it goes both ways, it tells two clients, neither of them 0, and it tells the
--- same of any other folders of theirs.
+-- What a test on folders that tells conflict has to meet, so that the wall's laws follow: it goes both ways, it tells two clients, neither of them 0,
+-- and it tells the same of any other folders of theirs.
 pub record ConflictLaws (r : Register) (test : ℕ → ℕ → Bool) : Type 0 where
   pub turned : (f g : ℕ) → test f g ≡ true → test g f ≡ true
   pub two : (f g : ℕ) → test f g ≡ true → clientOf r f ≡ clientOf r g → ⊥

@@ -11,7 +11,8 @@ use Rattle.vocabulary.proofs.Bools.{both, either, eqb-self}
 use Rattle.policy.specs.Rules.{reads, writes}
 use Rattle.policy.specs.Wall.{Wall, Own, Rights, joined, asked, afterGrant, Held, Use, reading, writing, used, TwoHeld, Strayed, Broken, Breaks}
 
--- What the argument asks of a notion of conflict: no client is in conflict with itself, conflict goes both ways, and 0 is no client.
+-- What the argument asks of a notion of conflict: no client is in conflict with itself, conflict goes both ways, and 0 is in
+-- conflict with none.
 pub record Lawful (w : Wall) : Type 0 where
   pub irreflexive : (c : ℕ) → w .conflict c c → ⊥
   pub symmetric : (c d : ℕ) → w .conflict c d → w .conflict d c

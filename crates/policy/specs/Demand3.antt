@@ -1,5 +1,5 @@
--- Demand 3 (document 01, 'Who holds what'; document 02, C-12): no sequence of requests and uses breaks the wall, the matrix shows just the rights that
--- stand, and no 20, 21 or 22 is given needlessly.
+-- Demand 3 (document 01, 'Who holds what'; document 02, C-12): no sequence of requests and uses breaks the wall, the matrix shows just the rights
+-- that stand, and no 20, 21 or 22 is given needlessly.
 use Prim.Native.Nat.{ℕ, _*_}
 use mathlib.Core.Path.{_≡_}
 use mathlib.Core.Bool.{true}

@@ -27,8 +27,8 @@ pub record Unread : Type 0 where
   pub classes : (r : Register) (classes : List ℕ) → r .byPairs ≡ true → length classes ≡ folders r → Accepted r → Accepted (withClasses r classes) →
       (matrix : List ℕ) (q : Request) (log : Log) → outcome r matrix q log ≡ outcome (withClasses r classes) matrix q log
 
--- 'Two readers may each conflict with one author, not with each other': folder 0 is the author's, client 7, folders 1 and 2 are the readers', 8 and 9,
--- all of one class. Either reader's folder may be read beside the other's, and the author's beside neither.
+-- 'Two readers may each conflict with one author, not with each other': folder 0 is the author's, client 7, folders 1 and 2 are the readers', 8 and
+-- 9, all of one class. Either reader's folder may be read beside the other's, and the author's beside neither.
 abbrev pub readersRegister : Register
 readersRegister = registerBy 1 (1 ∷ 1 ∷ 1 ∷ []) (7 ∷ 8 ∷ 9 ∷ []) true (7 ∷ 9 ∷ []) (8 ∷ 7 ∷ [])
 

@@ -1,6 +1,6 @@
--- The 1989 paper's theorems 1, 2 and 4 about the histories of demand 3: corollaries, so that a reader of the paper finds them; in terms of conflict, for
--- both modes (document 02, C-12), and by classes, as the paper has them. Access is a read right here: write rights may be gathered over many clients,
--- even in conflict, while nothing unsanitised has been read.
+-- The 1989 paper's theorems 1, 2 and 4 about the histories of demand 3: corollaries, so that a reader of the paper finds them; in terms of conflict,
+-- for both modes (document 02, C-12), and by classes, as the paper has them. Access is a read right here: write rights may be gathered over many
+-- clients, even in conflict, while nothing unsanitised has been read.
 use Prim.Native.Nat.{ℕ}
 use mathlib.Core.Path.{_≡_}
 use mathlib.Core.Bool.{true, false}

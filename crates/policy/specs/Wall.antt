@@ -105,8 +105,8 @@ pub record Strayed (w : Wall) (h : Held) : Type 0 where
   pub holds : h .folder folder client
   pub not-own : Own w folder client → ⊥
 
--- The wall is broken if a login holds 'two clients in conflict' (document 02, C-12; in document 01 'two clients of one class'), 'or a folder a client not
--- its own'.
+-- The wall is broken if a login holds 'two clients in conflict' (document 02, C-12; in document 01 'two clients of one class'), 'or a folder a client
+-- not its own'.
 abbrev pub Broken : Wall → Held → Type 0
 Broken w h = TwoHeld w h ⊎ Strayed w h
 

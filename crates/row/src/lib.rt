@@ -1,6 +1,6 @@
 // What the wall says of a request, on the row of the login that asks, and whether a grant takes write rights back (document 01, 'The four kinds of
-// request'; document 02, C-12). Rows, lists and folders of any lengths and numbers may be given; whether they fit is asked once, before any walk. Kind and cells are
-// judged by the caller.
+// request'; document 02, C-12). Rows, lists and folders of any lengths and numbers may be given; whether they fit is asked once, before any walk.
+// Kind and cells are judged by the caller.
 use cell_rules::Sort;
 use ids::FolderNo;
 use ids::Label;

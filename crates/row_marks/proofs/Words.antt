@@ -1,7 +1,7 @@
 -- Laws of words: a word's bits, and those of a word into which one bit was put.
 use Prim.Native.Nat.{ℕ, zero, suc, _*_, _/_, _%_, _^_, _≤_, _<_, min, max}
-use mathlib.Core.Path.{_≡_, refl, _∙_}
-use mathlib.Core.Bool.{Bool, true, false, cond, _&&_, _||_, and-true, and-false}
+use mathlib.Core.Path.{_≡_, refl}
+use mathlib.Core.Bool.{false, _&&_, _||_, and-true, and-false}
 use native.Mathlib.Omega.{arith}
 use native.Mathlib.Nat.{one-mul, zero-mul, zero-min, min-le-left, min-eq-right, zero-max, max-eq-left, max-le, pow-suc, zero-div, div-eq-of-lt, div-one, mul-mod-left, mul-div-mul-right}
 use lib.Arith.{digits-mod}

@@ -1,7 +1,7 @@
 -- The first find of one test or another is the smaller of their first finds; so it is with the first readable folders of listed clients.
 use Prim.Native.Nat.{ℕ, zero, suc, _≤_, _<_, min}
 use mathlib.Core.Path.{_≡_, refl, ap, _∙_}
-use mathlib.Core.Bool.{Bool, true, false, cond, _&&_, _||_, and-false, and-or-distrib-left}
+use mathlib.Core.Bool.{Bool, true, false, cond, _||_, and-false, and-or-distrib-left}
 use mathlib.Core.List.{List, [], _∷_, _++_}
 use native.Mathlib.Omega.{arith}
 use lib.ListN.{length, getD}

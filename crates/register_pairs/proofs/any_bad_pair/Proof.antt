@@ -22,46 +22,36 @@ Inv-loop firsts seconds any₀ i₀ any i = (i ≤ length firsts) × (any ≡ so
 abbrev μ-loop : tie.MeasureT-loop
 μ-loop firsts seconds any₀ i₀ any i = length firsts - i
 
--- src/lib.rt:26:5
 loop-holds : tie.Need-loop-holds Inv-loop μ-loop
 unfolding those
 loop-holds c =
     (omega arith, refl)
 
--- src/lib.rt:27:21
 mul-first : tie.Need-mul-first Inv-loop μ-loop
 mul-first c = search needs
 
--- src/lib.rt:27:21
 shared-slice-read-first : tie.Need-shared-slice-read-first Inv-loop μ-loop
 shared-slice-read-first c = search needs
 
--- src/lib.rt:28:22
 mul-second : tie.Need-mul-second Inv-loop μ-loop
 mul-second c = search needs
 
--- src/lib.rt:28:22
 shared-slice-read-second : tie.Need-shared-slice-read-second Inv-loop μ-loop
 shared-slice-read-second c = search needs
 
--- src/lib.rt:29:21
 bad-pair-requires : tie.Need-bad-pair-requires Inv-loop μ-loop
 bad-pair-requires c κs = search needs
 
--- src/lib.rt:30:9
 add-i : tie.Need-add-i Inv-loop μ-loop
 add-i c = search needs
 
--- src/lib.rt:26:5
 loop-less : tie.Need-loop-less Inv-loop μ-loop
 loop-less c = search needs
 
--- src/lib.rt:26:5
 loop-again : tie.Need-loop-again Inv-loop μ-loop
 loop-again c =
     (omega arith, rw (some-those-suc, c .bad-pair .ensures, c .before .before .before .before .loop .inv .1))
 
--- src/lib.rt:20:1
 returns : tie.Need-returns Inv-loop μ-loop
 returns c =
     let end : c .before .loop .i ≡ length (now (c .before .before .before .before .args .firsts)) = omega arith in rw (← end) (c .before .loop .inv .1)

@@ -6,11 +6,9 @@ use Rattle.register_pairs.proofs.bad_pair.Reads as reads
 use Rattle.register_pairs.proofs.bad_pair.Lts as lts
 use Rattle.ids.proofs.same_client.Reads as same-client-reads
 
--- src/lib.rt:16:40
 same-client-requires : tie.Need-same-client-requires
 same-client-requires c κs = search needs
 
--- src/lib.rt:13:1
 returns : tie.Need-returns
 returns c =
     rw (c .same-client .ensures)

@@ -5,65 +5,51 @@ use Rattle.row_decision.proofs.by_ruling.Tie as tie
 use Rattle.row_decision.proofs.by_ruling.Reads as reads
 use Rattle.row_decision.proofs.by_ruling.Lts as lts
 
--- src/lib.rt:30:44
 enum-told : tie.Need-enum-told
 enum-told c = search needs
 
--- src/lib.rt:31:47
 enum-told-2 : tie.Need-enum-told-2
 enum-told-2 c = search needs
 
--- src/lib.rt:32:52
 enum-told-3 : tie.Need-enum-told-3
 enum-told-3 c = search needs
 
--- src/lib.rt:33:28
 enum-told-4 : tie.Need-enum-told-4
 enum-told-4 c = search needs
 
--- src/lib.rt:34:23
 enum-known-ruling : tie.Need-enum-known-ruling
 enum-known-ruling c = search needs
 
--- src/lib.rt:35:25
 enum-known-ruling-2 : tie.Need-enum-known-ruling-2
 enum-known-ruling-2 c = search needs
 
--- src/lib.rt:36:25
 enum-known-ruling-3 : tie.Need-enum-known-ruling-3
 enum-known-ruling-3 c = search needs
 
--- src/lib.rt:26:1
 returns : tie.Need-returns
 returns c =
     rw (c .enum-told .given .1)
 
--- src/lib.rt:26:1
 returns-2 : tie.Need-returns-2
 returns-2 c =
     rw (c .enum-told2 .given .1)
 
--- src/lib.rt:26:1
 returns-3 : tie.Need-returns-3
 returns-3 c =
     rw (c .enum-told3 .given .1)
 
--- src/lib.rt:26:1
 returns-4 : tie.Need-returns-4
 returns-4 c =
     rw (c .enum-told4 .given .1)
 
--- src/lib.rt:26:1
 returns-5 : tie.Need-returns-5
 returns-5 c =
     rw (c .before .ruling .given .1)
 
--- src/lib.rt:26:1
 returns-6 : tie.Need-returns-6
 returns-6 c =
     rw (c .before .ruling2 .given .1)
 
--- src/lib.rt:26:1
 returns-7 : tie.Need-returns-7
 returns-7 c =
     rw (c .before .ruling3 .given .1)

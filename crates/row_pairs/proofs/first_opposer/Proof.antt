@@ -4,11 +4,11 @@ use mathlib.Core.Bool.{true}
 use mathlib.Core.List.{List, []}
 use mathlib.Core.Path.{_≡_, sym, _∙_}
 use native.Mathlib.Omega.{arith}
-use lib.ListN.{length, length-replicate}
+use lib.ListN.{length-replicate}
 use denote.Ref.{now}
 use borrow.Author.Tests.{not-true, not-false}
 use borrow.Author.Needs.{needs}
-use Rattle.register.specs.Register.{Register, registerBy, pairs}
+use Rattle.register.specs.Register.{Register, registerBy}
 use Rattle.row_marks.specs.Marks.{fitted}
 use Rattle.row_marks.proofs.Opponents.{fitted-lengths, first-unfitted}
 use Rattle.row_pairs.proofs.Opposers.{first-opponents, first-unnamed}

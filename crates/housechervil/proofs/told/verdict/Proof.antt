@@ -6,67 +6,52 @@ use Rattle.housechervil.proofs.told.verdict.Reads as reads
 use Rattle.housechervil.proofs.told.verdict.Lts as lts
 use Rattle.housechervil.proofs.told.folders.Reads as folders-reads
 
--- src/told.rt:46:30
 enum-told : tie.Need-enum-told
 enum-told c = search needs
 
--- src/told.rt:46:30
 folders-requires : tie.Need-folders-requires
 folders-requires c κs = search needs
 
--- src/told.rt:47:32
 enum-told-2 : tie.Need-enum-told-2
 enum-told-2 c = search needs
 
--- src/told.rt:47:32
 folders-requires-2 : tie.Need-folders-requires-2
 folders-requires-2 c κs = search needs
 
--- src/told.rt:48:27
 enum-known-v : tie.Need-enum-known-v
 enum-known-v c = search needs
 
--- src/told.rt:48:33
 folders-requires-3 : tie.Need-folders-requires-3
 folders-requires-3 c κs = search needs
 
--- src/told.rt:49:29
 enum-known-v-2 : tie.Need-enum-known-v-2
 enum-known-v-2 c = search needs
 
--- src/told.rt:49:38
 folders-requires-4 : tie.Need-folders-requires-4
 folders-requires-4 c κs = search needs
 
--- src/told.rt:50:30
 enum-told-3 : tie.Need-enum-told-3
 enum-told-3 c = search needs
 
--- src/told.rt:50:30
 folders-requires-5 : tie.Need-folders-requires-5
 folders-requires-5 c κs = search needs
 
--- src/told.rt:42:1
 returns : tie.Need-returns
 returns c =
     rw (c .folders .ensures, c .before .enum-told .given .1)
 
--- src/told.rt:42:1
 returns-2 : tie.Need-returns-2
 returns-2 c =
     rw (c .folders2 .ensures, c .before .enum-told2 .given .1)
 
--- src/told.rt:42:1
 returns-3 : tie.Need-returns-3
 returns-3 c =
     rw (c .folders3 .ensures, c .before .before .v .given .1)
 
--- src/told.rt:42:1
 returns-4 : tie.Need-returns-4
 returns-4 c =
     rw (c .folders4 .ensures, c .before .before .v2 .given .1)
 
--- src/told.rt:42:1
 returns-5 : tie.Need-returns-5
 returns-5 c =
     rw (c .folders5 .ensures, c .before .enum-told3 .given .1)
