@@ -31,7 +31,7 @@ pub enum Conflicts {
     /// Two different clients of one class are in conflict.
     ByClass,
     /// Two clients are in conflict if some pair names both, whichever way round, and no others are. The classes count for nothing but
-    /// refusals 2 and 3.
+    /// refusals 1 to 3.
     ByPair(Pairs),
 }
 
