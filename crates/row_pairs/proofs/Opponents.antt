@@ -11,12 +11,13 @@ use native.Mathlib.Decide.{ℕ-discrete}
 use lib.Dec.{eqb}
 use lib.ListN.{length, take, set, length-append, length-map}
 use lib.Seq.{take-suc-set, length-take-le}
+use mir.Val.{boolByte}
 use borrow.Author.Tests.{eqb-true, ne-eqb}
 use Rattle.vocabulary.specs.Those.{those, some, member}
-use Rattle.vocabulary.proofs.Those.{those-agree, those-skip, those-take, some-those-suc, member-append, some-none, below-suc}
+use Rattle.vocabulary.proofs.Those.{those-agree, those-suc, those-skip, those-take, some-those-suc, member-append, below-suc}
 use Rattle.register.specs.Register.{Register, pairs, firstAt, secondAt}
 use Rattle.policy.specs.Conflict.{pairNames, paired}
-use Rattle.row_pairs.specs.Opponents.{names, otherOf, opponents}
+use Rattle.row_pairs.specs.Opponents.{names, named, otherOf, opponents}
 
 eqb-turn : (k l : ℕ) → eqb k l ≡ eqb l k
 eqb-turn k l = elim (ℕ-discrete k l) [ yes e ↦ rw e | no d ↦ ne-eqb k l d ∙ sym (ne-eqb l k (λ e. d (sym e))) ]
@@ -52,9 +53,25 @@ opponents-paired r x c =
     ∙ sym (member-map (otherOf (r .firsts) (r .seconds) c) (names (r .firsts) (r .seconds) c) x (pairs r))
 
 -- Where no pair names the client, it has no opponents.
-pub opponents-none : (firsts seconds : List ℕ) (c n : ℕ) → some (those (names firsts seconds c) n) ≡ false → opponents firsts seconds c n ≡ []
+pub opponents-none : (firsts seconds : List ℕ) (c : ℕ) → named firsts seconds c ≡ 0 → opponents firsts seconds c (length firsts) ≡ []
 unfolding opponents
-opponents-none firsts seconds c n e = rw (some-none (those (names firsts seconds c) n) e)
+opponents-none firsts seconds c = at (those (names firsts seconds c) (length firsts))
+  where
+    at : (l : List ℕ) → length l ≡ 0 → map (otherOf firsts seconds c) l ≡ []
+    at [] e = refl
+    at (x ∷ xs) e = absurd (omega arith)
+
+-- How many a search has found, one number further.
+pub length-those-suc : (p : ℕ → Bool) (i : ℕ) → length (those p (i + 1)) ≡ length (those p i) + boolByte (p i)
+length-those-suc p i = rw (those-suc, length-append) (at (p i))
+  where
+    at : (b : Bool) → length (those p i) + length (cond b (i ∷ []) []) ≡ length (those p i) + boolByte b
+    at true = refl
+    at false = refl
+
+pub boolByte-most : (b : Bool) → boolByte b ≤ 1
+boolByte-most true = omega arith
+boolByte-most false = omega arith
 
 -- A search that passes a find has listed more by then.
 those-longer : (p : ℕ → Bool) (i n : ℕ) → i < n → p i ≡ true → length (those p i) < length (those p n)
@@ -79,10 +96,12 @@ module _ (firsts seconds : List ℕ) (c i : ℕ) where
       rw (those-take (names firsts seconds c) i e, map-append (otherOf firsts seconds c) (those (names firsts seconds c) i))
       (rw (add-one, take-suc-set list n (otherOf firsts seconds c i) h, t))
 
-  -- If a list of k has no room for it, there are more than k.
-  pub opponents-past :
-      (list : List ℕ) (k n : ℕ) → k ≤ length list → take k list ≡ opponents firsts seconds c i → i < n → names firsts seconds c i ≡ true →
-      k < length (opponents firsts seconds c n)
+  -- A list that is long enough for all opponents has room for it.
+  pub opponents-room :
+      (list : List ℕ) (n : ℕ) → n ≤ length list → take n list ≡ opponents firsts seconds c i → i < length firsts → names firsts seconds c i ≡ true →
+      named firsts seconds c ≤ length list → n < length list
   unfolding opponents
-  opponents-past list k n fit t h e =
-      rw (← (length-take-le k list fit), t) (simp length-map (those-longer (names firsts seconds c) i n h e))
+  opponents-room list n fit t h e all =
+      let more : n < named firsts seconds c =
+      rw (← (length-take-le n list fit), t) (simp length-map (those-longer (names firsts seconds c) i (length firsts) h e)) in
+      omega arith

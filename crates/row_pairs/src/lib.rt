@@ -1,10 +1,10 @@
 // The search for a rival by pairs, on a row alone (document 02, C-12), quickest where the client asked for has few opponents. Lists of any lengths
 // may be given; whether they fit is asked once, before any walk.
 mod groups; // the folders of listed clients, sought by four clients at a time
-mod listing; // the opponents, listed
+mod listing; // the opponents, counted and listed
 
 use crate::groups::first_among;
-use crate::listing::any_named;
+use crate::listing::count_named;
 use crate::listing::list_opponents;
 use ids::ClientNo;
 ghost use mathlib.Core.Path.{_≡_};
@@ -25,13 +25,14 @@ pub fn first_opposer(
     if !row_marks::fits(row, clients, firsts, seconds) {
         return row.len();
     }
-    if !any_named(firsts, seconds, client) {
+    let count = count_named(firsts, seconds, client);
+    if count == 0 {
         return row.len();
+    }
+    if 32 < count {
+        return row_marks::first_marked(row, clients, firsts, seconds, client);
     }
     let mut list = [0u16; 32];
     let n = list_opponents(firsts, seconds, client, &mut list);
-    if 32 < n {
-        return row_marks::first_marked(row, clients, firsts, seconds, client);
-    }
     first_among(row, clients, &list, n)
 }

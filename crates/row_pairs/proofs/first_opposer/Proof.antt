@@ -34,18 +34,13 @@ returns : tie.Need-returns
 returns c =
     first-unfitted _ _ _ (sym (c .before .fits2 .ensures) ∙ not-true _ (c .if1 .taken))
 
-any-named-requires : tie.Need-any-named-requires
-any-named-requires c κs = fitted-lengths (asked c) (itsRow c) (fit c) .1 .0
+count-named-requires : tie.Need-count-named-requires
+count-named-requires c κs = fitted-lengths (asked c) (itsRow c) (fit c) .1
 
 returns-2 : tie.Need-returns-2
 returns-2 c =
     let past = c .before .before in
-    first-unnamed (asked past) (itsRow past) _ (fit past) (sym (c .before .any-named .ensures) ∙ not-true _ (c .if2 .taken))
-
-list-opponents-requires : tie.Need-list-opponents-requires
-list-opponents-requires c κs =
-    let past = c .before .before .before in
-    (fitted-lengths (asked past) (itsRow past) (fit past) .1 .0, length-replicate {A = ℕ} 32 0)
+    first-unnamed (asked past) (itsRow past) _ (fit past) (sym (c .before .count-named .ensures) ∙ c .if2 .taken)
 
 first-marked-requires : tie.Need-first-marked-requires
 first-marked-requires c κs = search needs
@@ -53,15 +48,22 @@ first-marked-requires c κs = search needs
 returns-3 : tie.Need-returns-3
 returns-3 c = search needs
 
+list-opponents-requires : tie.Need-list-opponents-requires
+list-opponents-requires c κs =
+    let past = c .before .before .before .before in
+    let count = c .before .before .before .count-named .ensures in
+    (fitted-lengths (asked past) (itsRow past) (fit past) .1 .0, length-replicate {A = ℕ} 32 0, omega (arith, count))
+
 first-among-requires : tie.Need-first-among-requires
 first-among-requires c κs =
     let past = c .before .before .before .before .before .before in
-    (fitted-lengths (asked past) (itsRow past) (fit past) .0, omega arith, c .before .before .list-opponents .ensures .room)
+    let listed = c .before .list-opponents .ensures in
+    (fitted-lengths (asked past) (itsRow past) (fit past) .0, listed .few, listed .room)
 
 returns-4 : tie.Need-returns-4
 returns-4 c =
     let past = c .before .before .before .before .before .before .before in
-    c .first-among .ensures ∙ (rw (c .before .before .before .list-opponents .ensures .held (omega arith)) (first-opponents (asked past) (itsRow past) _ (fit past)))
+    rw (c .first-among .ensures, c .before .before .list-opponents .ensures .held) (first-opponents (asked past) (itsRow past) _ (fit past))
 
 pub first-opposer-spec : {M : Type 1} → statement M
 first-opposer-spec =
@@ -69,10 +71,10 @@ first-opposer-spec =
     (tie.spec
     fits-requires
     returns
-    any-named-requires
+    count-named-requires
     returns-2
-    list-opponents-requires
     first-marked-requires
     returns-3
+    list-opponents-requires
     first-among-requires
     returns-4)

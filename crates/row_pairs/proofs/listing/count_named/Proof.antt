@@ -1,26 +1,27 @@
--- `any_named` meets its contract: the flag says whether a pair that the loop has passed names the client.
+-- `count_named` meets its contract: the count is that of the pairs that the loop has passed.
 use Prim.Native.Nat.{_≤_, _-_}
 use mathlib.Core.Path.{_≡_, refl, ap, _∙_}
 use native.Mathlib.Omega.{arith}
 use lib.ListN.{length}
 use borrow.Author.Needs.{needs}
-use Rattle.vocabulary.specs.Those.{those, some}
-use Rattle.vocabulary.proofs.Those.{some-those-suc, those-end}
+use Rattle.vocabulary.specs.Those.{those}
+use Rattle.vocabulary.proofs.Those.{those-end}
 use Rattle.row_pairs.specs.Opponents.{names}
-use Rattle.row_pairs.proofs.listing.any_named.Statement.{statement}
-use Rattle.row_pairs.proofs.listing.any_named.Tie as tie
+use Rattle.row_pairs.proofs.Opponents.{length-those-suc, boolByte-most}
+use Rattle.row_pairs.proofs.listing.count_named.Statement.{statement}
+use Rattle.row_pairs.proofs.listing.count_named.Tie as tie
 
 abbrev Inv-loop : tie.InvT-loop
-Inv-loop firsts seconds client any₀ i₀ any i =
-    (i ≤ length firsts) × (any ≡ some (those (names firsts seconds (client .0)) i))
+Inv-loop firsts seconds client count₀ i₀ count i =
+    (i ≤ length firsts) × (count ≤ i) × (count ≡ length (those (names firsts seconds (client .0)) i))
 
 abbrev μ-loop : tie.MeasureT-loop
-μ-loop firsts seconds client any₀ i₀ any i = length firsts - i
+μ-loop firsts seconds client count₀ i₀ count i = length firsts - i
 
 loop-holds : tie.Need-loop-holds Inv-loop μ-loop
 unfolding those
 loop-holds c =
-    (omega arith, refl)
+    (omega arith, omega arith, refl)
 
 mul-first : tie.Need-mul-first Inv-loop μ-loop
 mul-first c = search needs
@@ -37,6 +38,12 @@ shared-slice-read-second c = search needs
 names-requires : tie.Need-names-requires Inv-loop μ-loop
 names-requires c κs = search needs
 
+cast-count : tie.Need-cast-count Inv-loop μ-loop
+cast-count c = search needs
+
+add-count : tie.Need-add-count Inv-loop μ-loop
+add-count c = record { fits = omega (arith, boolByte-most (c .names .result)) }
+
 add-i : tie.Need-add-i Inv-loop μ-loop
 add-i c = search needs
 
@@ -45,14 +52,15 @@ loop-less c = search needs
 
 loop-again : tie.Need-loop-again Inv-loop μ-loop
 loop-again c =
-    (omega arith, rw (some-those-suc, c .names .ensures, c .before .before .before .before .loop .inv .1))
+    let l = c .before .before .before .before .loop in
+    (omega arith, omega (arith, boolByte-most (c .names .result)), rw (length-those-suc, c .names .ensures, l .inv .2))
 
 returns : tie.Need-returns Inv-loop μ-loop
 returns c =
-    c .before .loop .inv .1 ∙ ap some (those-end _ _ _ (c .loop-test .left) (c .before .loop .inv .0))
+    c .before .loop .inv .2 ∙ ap length (those-end _ _ _ (c .loop-test .left) (c .before .loop .inv .0))
 
-pub any-named-spec : {M : Type 1} → statement M
-any-named-spec =
+pub count-named-spec : {M : Type 1} → statement M
+count-named-spec =
     tie.close
     (tie.spec
     Inv-loop
@@ -63,6 +71,8 @@ any-named-spec =
     mul-second
     shared-slice-read-second
     names-requires
+    cast-count
+    add-count
     add-i
     loop-less
     loop-again
