@@ -98,7 +98,10 @@ fn judge_wall(
 fn pairs_unfit(by_pairs: bool, firsts: &[u16], seconds: &[u16]) -> bool
     ensures { λ r. ⌜ r ≡ («by_pairs» && not (pairsFit (lentPairs firsts seconds))) ⌝ }
 {
-    by_pairs & !register_pairs::pairs_fit(firsts, seconds)
+    if by_pairs {
+        return !register_pairs::pairs_fit(firsts, seconds);
+    }
+    false
 }
 
 // What a login whose row this is gets for a request of this folder and kind.
