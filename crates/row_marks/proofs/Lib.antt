@@ -1,4 +1,5 @@
 pub mod Words
 pub mod Marks
+pub mod Quarters
 pub mod Opponents
 pub mod Threes

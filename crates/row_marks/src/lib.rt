@@ -33,8 +33,7 @@ pub fn first_marked(
     if !fits(row, clients, firsts, seconds) {
         return row.len();
     }
-    let mut blocks = [0u16; 1024];
-    let mut bits = [0u64; 257];
-    mark_all(firsts, seconds, client, &mut blocks, &mut bits);
-    first(row, clients, &blocks, &bits)
+    let mut bits = [0u64; 1024];
+    mark_all(firsts, seconds, client, &mut bits);
+    first(row, clients, &bits)
 }

@@ -1,7 +1,7 @@
 // The walk over the row for a readable folder of a marked client.
 use crate::client_set::bits_from;
 use ids::ClientNo;
-ghost use Prim.Native.Nat.{_%_, _≤_, _<_};
+ghost use Prim.Native.Nat.{_+_, _%_, _≤_, _<_};
 ghost use mathlib.Core.Path.{_≡_};
 ghost use mathlib.Core.Bool.{_&&_};
 ghost use mathlib.Core.List.{[]};
@@ -9,7 +9,7 @@ ghost use lib.Dec.{eqb};
 ghost use lib.ListN.{length};
 ghost use Rattle.vocabulary.specs.Those.{those};
 ghost use Rattle.policy.specs.Rules.{canRead};
-ghost use Rattle.row_marks.specs.Marks.{Placed, readMarked, firstRead};
+ghost use Rattle.row_marks.specs.Marks.{readMarked, firstRead, anyOfThree};
 
 // Odd where a cell gives the read right and the lowest of the bits is set.
 fn read_and_marked(cell: u8, bits: u64) -> u64
@@ -19,29 +19,34 @@ fn read_and_marked(cell: u8, bits: u64) -> u64
 }
 
 // Odd where folder f may be read and is of a marked client.
-fn found(row: &[u8], clients: &[u16], blocks: &[u16; 1024], bits: &[u64; 257], f: usize) -> u64
-    requires { ⌜ (length (now clients) ≡ length (now row)) × ((f < length (now row)) × Placed (now blocks)) ⌝ }
-    ensures { λ r. ⌜ eqb (r % 2) 1 ≡ readMarked (now (row .entry)) (now (clients .entry)) (now (blocks .entry)) (now (bits .entry)) f ⌝ }
+fn found(row: &[u8], clients: &[u16], bits: &[u64; 1024], f: usize) -> u64
+    requires { ⌜ (length (now clients) ≡ length (now row)) × (f < length (now row)) ⌝ }
+    ensures { λ r. ⌜ eqb (r % 2) 1 ≡ readMarked (now (row .entry)) (now (clients .entry)) (now (bits .entry)) f ⌝ }
 {
     let cell = row[f];
     let client = ClientNo(clients[f]);
-    read_and_marked(cell, bits_from(blocks, bits, client))
+    read_and_marked(cell, bits_from(bits, client))
+}
+
+// Odd where one of three folders, from f on, is such a folder.
+fn found_three(row: &[u8], clients: &[u16], bits: &[u64; 1024], f: usize) -> u64
+    requires { ⌜ (length (now clients) ≡ length (now row)) × (f + 3 ≤ length (now row)) ⌝ }
+    ensures { λ r. ⌜ eqb (r % 2) 1 ≡ anyOfThree (readMarked (now (row .entry)) (now (clients .entry)) (now (bits .entry))) f ⌝ }
+{
+    let one = found(row, clients, bits, f);
+    let two = found(row, clients, bits, f + 1);
+    let three = found(row, clients, bits, f + 2);
+    one | two | three
 }
 
 // The first folder that may be read and is of a marked client, or the row's length, where those below `start` are none.
-fn first_from(
-    row: &[u8],
-    clients: &[u16],
-    blocks: &[u16; 1024],
-    bits: &[u64; 257],
-    start: usize,
-) -> usize
-    requires { ⌜ (length (now clients) ≡ length (now row)) × ((start ≤ length (now row)) × (Placed (now blocks) × (those (readMarked (now row) (now clients) (now blocks) (now bits)) start ≡ []))) ⌝ }
-    ensures { λ r. ⌜ r ≡ firstRead (now (row .entry)) (now (clients .entry)) (now (blocks .entry)) (now (bits .entry)) ⌝ }
+fn first_from(row: &[u8], clients: &[u16], bits: &[u64; 1024], start: usize) -> usize
+    requires { ⌜ (length (now clients) ≡ length (now row)) × ((start ≤ length (now row)) × (those (readMarked (now row) (now clients) (now bits)) start ≡ [])) ⌝ }
+    ensures { λ r. ⌜ r ≡ firstRead (now (row .entry)) (now (clients .entry)) (now (bits .entry)) ⌝ }
 {
     let mut f = start;
     while f < row.len() {
-        if found(row, clients, blocks, bits, f) % 2 == 1 {
+        if found(row, clients, bits, f) % 2 == 1 {
             return f;
         }
         f += 1;
@@ -49,21 +54,21 @@ fn first_from(
     f
 }
 
-// The first such folder, or the row's length. Three at a time, with one branch for all, until one of them is found; four would go through vector
-// registers and back, which is slower.
-pub(crate) fn first(row: &[u8], clients: &[u16], blocks: &[u16; 1024], bits: &[u64; 257]) -> usize
-    requires { ⌜ (length (now clients) ≡ length (now row)) × Placed (now blocks) ⌝ }
-    ensures { λ r. ⌜ r ≡ firstRead (now (row .entry)) (now (clients .entry)) (now (blocks .entry)) (now (bits .entry)) ⌝ }
+// The first such folder, or the row's length. Six at a time, with one branch for all, until one of them is found; how far the sixes reach is asked
+// once, not at each turn.
+pub(crate) fn first(row: &[u8], clients: &[u16], bits: &[u64; 1024]) -> usize
+    requires { ⌜ length (now clients) ≡ length (now row) ⌝ }
+    ensures { λ r. ⌜ r ≡ firstRead (now (row .entry)) (now (clients .entry)) (now (bits .entry)) ⌝ }
 {
+    let whole = row.len() - row.len() % 6;
     let mut f = 0;
-    while 3 <= row.len() - f {
-        let one = found(row, clients, blocks, bits, f);
-        let two = found(row, clients, blocks, bits, f + 1);
-        let three = found(row, clients, blocks, bits, f + 2);
-        if (one | two | three) % 2 == 1 {
-            return first_from(row, clients, blocks, bits, f);
+    while f < whole {
+        let low = found_three(row, clients, bits, f);
+        let high = found_three(row, clients, bits, f + 3);
+        if (low | high) % 2 == 1 {
+            return first_from(row, clients, bits, f);
         }
-        f += 3;
+        f += 6;
     }
-    first_from(row, clients, blocks, bits, f)
+    first_from(row, clients, bits, f)
 }

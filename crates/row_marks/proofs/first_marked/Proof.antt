@@ -37,17 +37,16 @@ returns c =
 
 mark-all-requires : tie.Need-mark-all-requires
 mark-all-requires c κs =
-    (sizes (c .before .before) .1 .0, (sizes (c .before .before) .1 .1, (refl, refl)))
+    (sizes (c .before) .1 .0, (sizes (c .before) .1 .1, refl))
 
 first-requires : tie.Need-first-requires
 first-requires c κs =
-    let fitting = sizes (c .before .before .before .before .before) in
-    (fitting .0, c .before .before .mark-all .ensures .placed)
+    sizes (c .before .before .before) .0
 
 returns-2 : tie.Need-returns-2
 returns-2 c =
-    let past = c .before .before .before .before .before .before in
-    rw (c .first .ensures) (first-fitted (asked past) _ _ _ _ (fit past) (c .before .before .before .mark-all .ensures))
+    let past = c .before .before .before .before in
+    rw (c .first .ensures) (first-fitted (asked past) _ _ _ (fit past) (c .before .before .mark-all .ensures))
 
 pub first-marked-spec : {M : Type 1} → statement M
 first-marked-spec = tie.close (tie.spec fits-requires returns mark-all-requires first-requires returns-2)

@@ -1,7 +1,5 @@
--- `bits_from` meets its contract: the word is within the array, and is moved down to the client's bit.
-use Prim.Native.Nat.{_/_}
+-- `bits_from` meets its contract: the word is moved down to the client's bit.
 use Rattle.row_marks.specs.Marks.{hasBit}
-use native.Mathlib.Omega.{arith}
 use borrow.Author.Needs.{needs}
 use Rattle.row_marks.proofs.client_set.bits_from.Statement.{statement}
 use Rattle.row_marks.proofs.client_set.bits_from.Tie as tie
@@ -10,12 +8,10 @@ word-of-requires : tie.Need-word-of-requires
 word-of-requires c κs = search needs
 
 mul-result : tie.Need-mul-result
-mul-result c =
-    search (needs, c .before .pre (c .before .args .client .0 / 64))
+mul-result c = search needs
 
 element-copy-out-result : tie.Need-element-copy-out-result
-element-copy-out-result c =
-    omega (arith, c .before .pre (c .before .args .client .0 / 64))
+element-copy-out-result c = search needs
 
 cast-result : tie.Need-cast-result
 cast-result c = search needs
@@ -26,7 +22,7 @@ shr-result c = search needs
 returns : tie.Need-returns
 unfolding hasBit
 returns c =
-    rw (c .before .before .word-of .ensures)
+    rw (c .before .before .word-of .ensures .0)
 
 pub bits-from-spec : {M : Type 1} → statement M
 bits-from-spec =

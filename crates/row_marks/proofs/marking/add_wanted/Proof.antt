@@ -1,57 +1,42 @@
--- `add_wanted` meets its contract: of the clients passed, those that are wanted are in the set.
-use lib.ListN.{getD}
-use Prim.Native.Nat.{_≤_, _-_, _/_}
+-- `add_wanted` meets its contract: of the clients passed in each quarter, those that are wanted are in the set.
+use Prim.Native.Nat.{_≤_, _-_}
 use mathlib.Core.Path.{_≡_}
-use Rattle.row_marks.specs.Marks.{Added}
-use Rattle.row_marks.proofs.Marks.{added-more}
+use Rattle.row_marks.proofs.Quarters.{Passed, passed-none, passed-more, passed-all}
 use native.Mathlib.Omega.{arith}
 use borrow.Author.Needs.{needs}
 use Rattle.row_marks.proofs.marking.add_wanted.Statement.{statement}
 use Rattle.row_marks.proofs.marking.add_wanted.Tie as tie
 
 abbrev Inv-loop : tie.InvT-loop
-Inv-loop others wanted n blocks bits₀ i₀ bits i = (i ≤ n) × Added others wanted blocks bits i
+Inv-loop others wanted bits₀ i₀ bits i = (i ≤ 64) × Passed others wanted bits i
 
 abbrev μ-loop : tie.MeasureT-loop
-μ-loop others wanted n blocks bits₀ i₀ bits i = n - i
+μ-loop others wanted bits₀ i₀ bits i = 64 - i
 
 loop-holds : tie.Need-loop-holds Inv-loop μ-loop
-loop-holds c = search needs
+loop-holds c =
+    (omega arith, rw (c .pre .1) (passed-none _ _))
 
-mul-t10 : tie.Need-mul-t10 Inv-loop μ-loop
-mul-t10 c = search needs
+add-requires : tie.Need-add-requires Inv-loop μ-loop
+add-requires c κs = search needs
 
-element-copy-out-t13 : tie.Need-element-copy-out-t13 Inv-loop μ-loop
-element-copy-out-t13 c = search needs
+add-add : tie.Need-add-add Inv-loop μ-loop
+add-add c = search needs
 
-word-of-requires : tie.Need-word-of-requires Inv-loop μ-loop
-word-of-requires c κs = search needs
+add-requires-2 : tie.Need-add-requires-2 Inv-loop μ-loop
+add-requires-2 c κs = search needs
 
-mul-bits : tie.Need-mul-bits Inv-loop μ-loop
-mul-bits c =
-    let start = c .before .before .before .before in
-    search (needs, start .pre .1 .1 .0 .within (getD (start .args .others .now) (c .before .before .before .loop .i) 0 / 64))
+add-add-2 : tie.Need-add-add-2 Inv-loop μ-loop
+add-add-2 c = search needs
 
-element-copy-out-bits : tie.Need-element-copy-out-bits Inv-loop μ-loop
-element-copy-out-bits c =
-    let start = c .before .before .before .before in
-    omega (arith, start .pre .1 .1 .0 .within (getD (start .args .others .now) (c .before .before .before .loop .i) 0 / 64))
+add-requires-3 : tie.Need-add-requires-3 Inv-loop μ-loop
+add-requires-3 c κs = search needs
 
-element-copy-out-bit-of : tie.Need-element-copy-out-bit-of Inv-loop μ-loop
-element-copy-out-bit-of c = search needs
+add-add-3 : tie.Need-add-add-3 Inv-loop μ-loop
+add-add-3 c = search needs
 
-bit-of-requires : tie.Need-bit-of-requires Inv-loop μ-loop
-bit-of-requires c κs = search needs
-
-mul-bits-2 : tie.Need-mul-bits-2 Inv-loop μ-loop
-mul-bits-2 c =
-    let start = c .before .before .before .before .before .before .before in
-    search (needs, start .pre .1 .1 .0 .within (getD (start .args .others .now) (c .before .before .before .before .before .before .loop .i) 0 / 64))
-
-element-write-bits : tie.Need-element-write-bits Inv-loop μ-loop
-element-write-bits c =
-    let start = c .before .before .before .before .before .before .before in
-    omega (arith, start .pre .1 .1 .0 .within (getD (start .args .others .now) (c .before .before .before .before .before .before .loop .i) 0 / 64))
+add-requires-4 : tie.Need-add-requires-4 Inv-loop μ-loop
+add-requires-4 c κs = search needs
 
 add-i : tie.Need-add-i Inv-loop μ-loop
 add-i c = search needs
@@ -61,14 +46,15 @@ loop-less c = search needs
 
 loop-again : tie.Need-loop-again Inv-loop μ-loop
 loop-again c =
-    let turn = c .before .before .before .before .before in
-    let start = turn .before .before .pre in
-    let more = added-more _ _ _ _ _ _ (start .1 .1 .0) (turn .loop-test .taken) (start .0) (start .1 .0 _ (turn .loop-test .taken)) (turn .before .loop .inv .1) in
-    (omega arith, rw (c .before .before .before .word-of .ensures, c .bit-of .ensures) more)
+    let one = c .before .before .before .before .before .before in
+    let two = c .before .before .before .before in
+    let three = c .before .before in
+    let done = one .before .before .before .loop .inv .1 in
+    (omega arith, passed-more _ _ _ _ _ _ _ _ done (one .add .ensures) (two .add2 .ensures) (three .add3 .ensures) (c .add4 .ensures))
 
 returns : tie.Need-returns Inv-loop μ-loop
 returns c =
-    let end : c .before .loop .i ≡ c .before .before .args .n = omega arith in rw (← end) (c .before .loop .inv .1)
+    let end : c .before .loop .i ≡ 64 = omega arith in passed-all _ _ _ (rw end at (c .before .loop .inv .1))
 
 pub add-wanted-spec : {M : Type 1} → statement M
 add-wanted-spec =
@@ -77,15 +63,13 @@ add-wanted-spec =
     Inv-loop
     μ-loop
     loop-holds
-    mul-t10
-    element-copy-out-t13
-    word-of-requires
-    mul-bits
-    element-copy-out-bits
-    element-copy-out-bit-of
-    bit-of-requires
-    mul-bits-2
-    element-write-bits
+    add-requires
+    add-add
+    add-requires-2
+    add-add-2
+    add-requires-3
+    add-add-3
+    add-requires-4
     add-i
     loop-less
     loop-again

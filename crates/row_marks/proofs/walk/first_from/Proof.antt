@@ -13,10 +13,10 @@ use Rattle.row_marks.proofs.walk.first_from.Statement.{statement}
 use Rattle.row_marks.proofs.walk.first_from.Tie as tie
 
 abbrev Inv-loop : tie.InvT-loop
-Inv-loop row clients blocks bits start f₀ f = (f ≤ length row) × (those (readMarked row clients blocks bits) f ≡ [])
+Inv-loop row clients bits start f₀ f = (f ≤ length row) × (those (readMarked row clients bits) f ≡ [])
 
 abbrev μ-loop : tie.MeasureT-loop
-μ-loop row clients blocks bits start f₀ f = length row - f
+μ-loop row clients bits start f₀ f = length row - f
 
 loop-holds : tie.Need-loop-holds Inv-loop μ-loop
 loop-holds c = search needs

@@ -6,11 +6,11 @@ use Rattle.row_marks.proofs.walk.found.Tie as tie
 shared-slice-read-cell : tie.Need-shared-slice-read-cell
 shared-slice-read-cell c = search needs
 
-mul-t10 : tie.Need-mul-t10
-mul-t10 c = search needs
+mul-t9 : tie.Need-mul-t9
+mul-t9 c = search needs
 
-shared-slice-read-t12 : tie.Need-shared-slice-read-t12
-shared-slice-read-t12 c = search needs
+shared-slice-read-t11 : tie.Need-shared-slice-read-t11
+shared-slice-read-t11 c = search needs
 
 bits-from-requires : tie.Need-bits-from-requires
 bits-from-requires c κs = search needs
@@ -27,8 +27,8 @@ found-spec =
     tie.close
     (tie.spec
     shared-slice-read-cell
-    mul-t10
-    shared-slice-read-t12
+    mul-t9
+    shared-slice-read-t11
     bits-from-requires
     read-and-marked-requires
     returns)

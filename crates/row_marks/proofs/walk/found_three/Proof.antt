@@ -1,0 +1,29 @@
+-- `found_three` meets its contract: three folders put together are odd if one is.
+use Rattle.row_marks.proofs.Words.{odd-or}
+use borrow.Author.Needs.{needs}
+use Rattle.row_marks.proofs.walk.found_three.Statement.{statement}
+use Rattle.row_marks.proofs.walk.found_three.Tie as tie
+
+found-requires : tie.Need-found-requires
+found-requires c κs = search needs
+
+add-found : tie.Need-add-found
+add-found c = search needs
+
+found-requires-2 : tie.Need-found-requires-2
+found-requires-2 c κs = search needs
+
+add-found-2 : tie.Need-add-found-2
+add-found-2 c = search needs
+
+found-requires-3 : tie.Need-found-requires-3
+found-requires-3 c κs = search needs
+
+returns : tie.Need-returns
+returns c =
+    rw (odd-or, odd-or, c .before .before .found .ensures, c .before .found2 .ensures, c .found3 .ensures)
+
+pub found-three-spec : {M : Type 1} → statement M
+found-three-spec =
+    tie.close
+    (tie.spec found-requires add-found found-requires-2 add-found-2 found-requires-3 returns)
