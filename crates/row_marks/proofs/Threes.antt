@@ -14,7 +14,7 @@ next : (p : ℕ → Bool) (i j : ℕ) → j ≡ i + 1 → those p i ≡ [] → p
 next p i j e none f = rw e (those-none p i none f)
 
 -- Nothing below i, and none of the next three, is nothing below i + 3.
-those-none-three : (p : ℕ → Bool) (i : ℕ) → those p i ≡ [] → anyOfThree p i ≡ false → those p (i + 3) ≡ []
+pub those-none-three : (p : ℕ → Bool) (i : ℕ) → those p i ≡ [] → anyOfThree p i ≡ false → those p (i + 3) ≡ []
 those-none-three p i e f =
     let two = neither (p i || p (i + 1)) (p (i + 2)) f in
     let one = neither (p i) (p (i + 1)) (two .0) in
@@ -23,8 +23,8 @@ those-none-three p i e f =
     next p (i + 2) (i + 3) (omega arith) past-two (two .1)
 
 -- The same of six.
-pub those-none-six : (p : ℕ → Bool) (i : ℕ) → those p i ≡ [] → (anyOfThree p i || anyOfThree p (i + 3)) ≡ false → those p (i + 6) ≡ []
-those-none-six p i e f =
-    let each = neither (anyOfThree p i) (anyOfThree p (i + 3)) f in
+pub those-none-six :
+    (p : ℕ → Bool) (i : ℕ) → those p i ≡ [] → anyOfThree p i ≡ false → anyOfThree p (i + 3) ≡ false → those p (i + 6) ≡ []
+those-none-six p i e low high =
     let end : i + 6 ≡ i + 3 + 3 = omega arith in
-    rw end (those-none-three p (i + 3) (those-none-three p i e (each .0)) (each .1))
+    rw end (those-none-three p (i + 3) (those-none-three p i e low) high)

@@ -11,15 +11,15 @@ ghost use Rattle.vocabulary.specs.Those.{those};
 ghost use Rattle.policy.specs.Rules.{canRead};
 ghost use Rattle.row_marks.specs.Marks.{readMarked, firstRead, anyOfThree};
 
-// Odd where a cell gives the read right and the lowest of the bits is set.
-fn read_and_marked(cell: u8, bits: u64) -> u64
+// Odd where a cell gives the read right and the lowest of the bits is set. In bytes, so that the compiler puts the cell's load into the `&`.
+fn read_and_marked(cell: u8, bits: u64) -> u8
     ensures { λ r. ⌜ eqb (r % 2) 1 ≡ canRead cell && eqb (bits % 2) 1 ⌝ }
 {
-    bits & cell as u64
+    ((bits % 256) as u8) & cell
 }
 
 // Odd where folder f may be read and is of a marked client.
-fn found(row: &[u8], clients: &[u16], bits: &[u64; 1024], f: usize) -> u64
+fn found(row: &[u8], clients: &[u16], bits: &[u64; 1024], f: usize) -> u8
     requires { ⌜ (length (now clients) ≡ length (now row)) × (f < length (now row)) ⌝ }
     ensures { λ r. ⌜ eqb (r % 2) 1 ≡ readMarked (now (row .entry)) (now (clients .entry)) (now (bits .entry)) f ⌝ }
 {
@@ -29,7 +29,7 @@ fn found(row: &[u8], clients: &[u16], bits: &[u64; 1024], f: usize) -> u64
 }
 
 // Odd where one of three folders, from f on, is such a folder.
-fn found_three(row: &[u8], clients: &[u16], bits: &[u64; 1024], f: usize) -> u64
+fn found_three(row: &[u8], clients: &[u16], bits: &[u64; 1024], f: usize) -> u8
     requires { ⌜ (length (now clients) ≡ length (now row)) × (f + 3 ≤ length (now row)) ⌝ }
     ensures { λ r. ⌜ eqb (r % 2) 1 ≡ anyOfThree (readMarked (now (row .entry)) (now (clients .entry)) (now (bits .entry))) f ⌝ }
 {
@@ -54,8 +54,8 @@ fn first_from(row: &[u8], clients: &[u16], bits: &[u64; 1024], start: usize) -> 
     f
 }
 
-// The first such folder, or the row's length. Six at a time, with one branch for all, until one of them is found; how far the sixes reach is asked
-// once, not at each turn.
+// The first such folder, or the row's length. Six at a turn, until one is found; how far the sixes reach is asked once, not at each turn. A branch
+// for each three: with one for all six the compiler takes four indices through a vector register and back, which is slower.
 pub(crate) fn first(row: &[u8], clients: &[u16], bits: &[u64; 1024]) -> usize
     requires { ⌜ length (now clients) ≡ length (now row) ⌝ }
     ensures { λ r. ⌜ r ≡ firstRead (now (row .entry)) (now (clients .entry)) (now (bits .entry)) ⌝ }
@@ -63,10 +63,11 @@ pub(crate) fn first(row: &[u8], clients: &[u16], bits: &[u64; 1024]) -> usize
     let whole = row.len() - row.len() % 6;
     let mut f = 0;
     while f < whole {
-        let low = found_three(row, clients, bits, f);
-        let high = found_three(row, clients, bits, f + 3);
-        if (low | high) % 2 == 1 {
+        if found_three(row, clients, bits, f) % 2 == 1 {
             return first_from(row, clients, bits, f);
+        }
+        if found_three(row, clients, bits, f + 3) % 2 == 1 {
+            return first_from(row, clients, bits, f + 3);
         }
         f += 6;
     }
