@@ -5,6 +5,8 @@ use mathlib.Core.Path.{_≡_, refl, sym, ap, _∙_}
 use mathlib.Core.Logic.{_⊎_, inl, inr, ⊎-elim}
 use mathlib.Core.Bool.{Bool, true, false, cond, not, _&&_}
 use mathlib.Core.List.{List, [], _∷_}
+use native.Mathlib.Omega.{arith}
+use native.Mathlib.Decide.{ℕ-discrete, decLt}
 use lib.ListN.{length, getD}
 use lib.Dec.{eqb}
 use borrow.Author.Tests.{eqb-true, eq-eqb, ne-eqb, le-leb, lt-leb, not-false}
@@ -25,11 +27,11 @@ use Rattle.register_pairs.specs.Pair.{pairsFit}
 use Rattle.row_marks.specs.Opposed.{opposers, firstOpposer}
 use Rattle.row_labels.proofs.Fitting.{fits-are}
 use Rattle.row.specs.Row.{fitChecks, rowAnswer, ruled, lostOn}
-use Rattle.row.specs.Cut.{allOf, firstOf, firstRival}
+use Rattle.row.specs.Cut.{allOf, firstOf, firstRival, ruledPast}
 use Rattle.row.proofs.Fitting.{lostOn-fits}
 
 -- A kind that enters a write right is not the careful read.
-writes-other : (kind : ℕ) → writes kind ≡ true → eqb kind 2 ≡ false
+pub writes-other : (kind : ℕ) → writes kind ≡ true → eqb kind 2 ≡ false
 writes-other kind e =
     ⊎-elim (λ a. rw (eqb-true kind 3 a)) (λ a. rw (eqb-true kind 4 a)) (either (eqb kind 3) (eqb kind 4) e)
 
@@ -87,30 +89,67 @@ module _ (r : Register) (row : List ℕ) (beside : Alongside row (r .classes) (r
       let g : length row ≤ getD (rivals r row o) 0 (length row) = rw (← e) h in
       first-none (rival r row o) (folders r) (rw (← same) at g)
 
-  pub says-rival : {n : ℕ} → n ≡ firstRival r row l → n < length row → answer 20 (n ∷ []) ≡ ruled (wallAnswer r row o kind)
+  says-rival : {n : ℕ} → n ≡ firstRival r row l → n < length row → answer 20 (n ∷ []) ≡ ruled (wallAnswer r row o kind)
   unfolding wallAnswer wallChecks judge
   says-rival is h = let p = rival-found is h in rw (p .0, p .1)
 
   module _ {n : ℕ} (passed : n ≡ firstRival r row l) (past : length row ≤ n) where
-    pub says-foreign : writes kind ≡ true → {m : ℕ} → Finds Foreign m → m < length row → answer 21 (m ∷ []) ≡ ruled (wallAnswer r row o kind)
+    says-foreign : writes kind ≡ true → {m : ℕ} → Finds Foreign m → m < length row → answer 21 (m ∷ []) ≡ ruled (wallAnswer r row o kind)
     unfolding wallAnswer wallChecks judge foreigners
     says-foreign w is h = let p = found Foreign is h in rw (no-rival passed past, same, w, p .0, p .1)
 
-    pub grants-write : writes kind ≡ true → {m : ℕ} → Finds Foreign m → length row ≤ m → answer 0 [] ≡ ruled (wallAnswer r row o kind)
+    grants-write : writes kind ≡ true → {m : ℕ} → Finds Foreign m → length row ≤ m → answer 0 [] ≡ ruled (wallAnswer r row o kind)
     unfolding wallAnswer wallChecks judge foreigners
     grants-write w is h = rw (no-rival passed past, same, w, none Foreign is h, writes-other kind w)
 
-    pub says-stake : writes kind ≡ false → kind ≡ 2 → {m : ℕ} → Finds AtStake m → m < length row → answer 22 (m ∷ []) ≡ ruled (wallAnswer r row o kind)
+    says-stake : writes kind ≡ false → kind ≡ 2 → {m : ℕ} → Finds AtStake m → m < length row → answer 22 (m ∷ []) ≡ ruled (wallAnswer r row o kind)
     unfolding wallAnswer wallChecks judge stakes
     says-stake w e is h = let p = found AtStake is h in rw (no-rival passed past, same, w, eq-eqb kind 2 e, p .0, p .1)
 
-    pub grants-careful : writes kind ≡ false → kind ≡ 2 → {m : ℕ} → Finds AtStake m → length row ≤ m → answer 0 [] ≡ ruled (wallAnswer r row o kind)
+    grants-careful : writes kind ≡ false → kind ≡ 2 → {m : ℕ} → Finds AtStake m → length row ≤ m → answer 0 [] ≡ ruled (wallAnswer r row o kind)
     unfolding wallAnswer wallChecks judge stakes
     grants-careful w e is h = rw (no-rival passed past, same, w, eq-eqb kind 2 e, none AtStake is h)
 
-    pub grants-read : writes kind ≡ false → (kind ≡ 2 → ⊥) → answer 0 [] ≡ ruled (wallAnswer r row o kind)
+    grants-read : writes kind ≡ false → (kind ≡ 2 → ⊥) → answer 0 [] ≡ ruled (wallAnswer r row o kind)
     unfolding wallAnswer wallChecks judge
     grants-read w e = rw (no-rival passed past, w, ne-eqb kind 2 e)
+
+    -- The searches after it.
+    abbrev first : Sort → ℕ
+    first sort = firstOf sort row (r .classes) (r .clients) l
+
+    past-write : writes kind ≡ true → ruledPast n row (r .classes) (r .clients) l kind ≡ ruled (wallAnswer r row o kind)
+    unfolding ruledPast judge
+    past-write w =
+        elim (decLt (first Foreign) (length row)) [
+          | yes h ↦ rw (le-leb (length row) n past, w, lt-leb (length row) (first Foreign) h) (says-foreign w refl h)
+          | no g ↦ rw (le-leb (length row) n past, w, le-leb (length row) (first Foreign) (omega arith), writes-other kind w) (grants-write w refl (omega arith))
+        ]
+
+    past-careful : writes kind ≡ false → kind ≡ 2 → ruledPast n row (r .classes) (r .clients) l kind ≡ ruled (wallAnswer r row o kind)
+    unfolding ruledPast judge
+    past-careful w e =
+        elim (decLt (first AtStake) (length row)) [
+          | yes h ↦ rw (le-leb (length row) n past, w, eq-eqb kind 2 e, lt-leb (length row) (first AtStake) h) (says-stake w e refl h)
+          | no g ↦ rw (le-leb (length row) n past, w, eq-eqb kind 2 e, le-leb (length row) (first AtStake) (omega arith)) (grants-careful w e refl (omega arith))
+        ]
+
+    past-read : writes kind ≡ false → (kind ≡ 2 → ⊥) → ruledPast n row (r .classes) (r .clients) l kind ≡ ruled (wallAnswer r row o kind)
+    unfolding ruledPast judge
+    past-read w d = rw (le-leb (length row) n past, w, ne-eqb kind 2 d) (grants-read w d)
+
+    past-rival : ruledPast n row (r .classes) (r .clients) l kind ≡ ruled (wallAnswer r row o kind)
+    past-rival =
+        ⊎-elim past-write (λ w. elim (ℕ-discrete kind 2) [ yes e ↦ past-careful w e | no d ↦ past-read w d ]) (true-or-false (writes kind))
+
+  -- What is answered by the searches is what the wall says.
+  pub wall-past : {n : ℕ} → n ≡ firstRival r row l → ruledPast n row (r .classes) (r .clients) l kind ≡ ruled (wallAnswer r row o kind)
+  unfolding ruledPast judge
+  wall-past {n} is =
+      elim (decLt n (length row)) [
+        | yes h ↦ rw (lt-leb (length row) n h) (says-rival is h)
+        | no g ↦ past-rival is (omega arith)
+      ]
 
 -- Rows 1, 11 and 6 of the table, and what follows them. Whether the lists fit is asked of them alone too.
 module _ (r : Register) (row : List ℕ) (o kind : ℕ) where

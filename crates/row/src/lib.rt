@@ -4,18 +4,19 @@
 use cell_rules::Sort;
 use ids::FolderNo;
 use ids::Label;
-ghost use Prim.Native.Nat.{_≤_};
+ghost use Prim.Native.Nat.{ℕ, _≤_};
 ghost use mathlib.Core.Path.{_≡_};
-ghost use mathlib.Core.Bool.{true, false, not, _&&_};
-ghost use mathlib.Core.List.{[]};
+ghost use mathlib.Core.Bool.{true, false};
+ghost use mathlib.Core.List.{List};
 ghost use lib.ListN.{length};
 ghost use Rattle.vocabulary.specs.Those.{some};
-ghost use Rattle.register.specs.Register.{registerBy};
-ghost use Rattle.register.specs.Lent.{lentFolders, lentFoldersBy, lentPairs};
-ghost use Rattle.policy.specs.Outcome.{wallAnswer};
+ghost use Rattle.register.specs.Register.{registerBy, registerOf};
+ghost use Rattle.register.specs.Lent.{lentClients, lentFolders, lentFoldersBy};
+ghost use Rattle.policy.specs.Rules.{writes};
 ghost use Rattle.row_labels.specs.Cut.{Alongside};
-ghost use Rattle.register_pairs.specs.Pair.{pairsFit};
-ghost use Rattle.row.specs.Cut.{firstRival};
+ghost use Rattle.row_labels.specs.Fitting.{listsFit};
+ghost use Rattle.row_marks.specs.Opposed.{firstOpposer};
+ghost use Rattle.row.specs.Cut.{ruledPast};
 ghost use Rattle.row.specs.Row.{rowAnswer, rulingAnswer, ruled, lostOn};
 
 mod walks; // the searches through a row
@@ -38,70 +39,126 @@ pub enum Ruling {
     AtStake(FolderNo),
 }
 
-// The first rival, or the row's length: by classes, or by pairs.
-fn first_rival(
-    row: &[u8],
-    classes: &[u16],
-    clients: &[u16],
-    by_pairs: bool,
-    firsts: &[u16],
-    seconds: &[u16],
-    o: Label,
-) -> usize
-    requires { ⌜ Alongside (now row) (now classes) (now clients) ⌝ }
-    ensures { λ r. ⌜ r ≡ firstRival (lentFoldersBy classes clients «by_pairs» firsts seconds) (now (row .entry)) o ⌝ }
+// Rows 20 and 21 of the table, for a kind that enters a write right; `rival` is the first, or the row's length.
+fn rule_write(rival: usize, row: &[u8], classes: &[u16], clients: &[u16], o: Label) -> Ruling
+    requires { ⌜ Alongside (now row) (now classes) (now clients) × (length (now row) ≤ 512) ⌝ }
+    ensures { λ r. ⌜ ((kind : ℕ) → writes kind ≡ true → rulingAnswer r ≡ ruledPast rival (now (row .entry)) (now (classes .entry)) (now (clients .entry)) o kind) ⌝ }
 {
-    if by_pairs {
-        let client = o.client;
-        return row_pairs::first_opposer(row, clients, firsts, seconds, client);
-    }
-    walks::find(Sort::Rival, row, classes, clients, o)
-}
-
-// Rows 20 to 22 of the table, in their order.
-fn judge_wall(
-    row: &[u8],
-    classes: &[u16],
-    clients: &[u16],
-    by_pairs: bool,
-    firsts: &[u16],
-    seconds: &[u16],
-    folder: FolderNo,
-    kind: u16,
-) -> Ruling
-    requires { ⌜ Alongside (now row) (now classes) (now clients) × (length (now row) ≤ 512) × ((«by_pairs» && not (pairsFit (registerBy 0 [] [] true (now firsts) (now seconds)))) ≡ false) ⌝ }
-    ensures { λ r. ⌜ rulingAnswer r ≡ ruled (wallAnswer (lentFoldersBy classes clients «by_pairs» firsts seconds) (now (row .entry)) (folder .0) kind) ⌝ }
-{
-    let o = row_labels::label_of(classes, clients, folder);
-    let rival = first_rival(row, classes, clients, by_pairs, firsts, seconds, o);
     if rival < row.len() {
         return Ruling::Rival(walks::folder_no(rival));
     }
-    if kinds::writes(kind) {
-        let foreign = walks::find(Sort::Foreign, row, classes, clients, o);
-        if foreign < row.len() {
-            return Ruling::Foreign(walks::folder_no(foreign));
-        }
-        return Ruling::Granted;
+    let foreign = walks::find(Sort::Foreign, row, classes, clients, o);
+    if foreign < row.len() {
+        return Ruling::Foreign(walks::folder_no(foreign));
+    }
+    Ruling::Granted
+}
+
+// Rows 20 and 22 of the table, for a kind that enters none.
+fn rule_read(
+    rival: usize,
+    row: &[u8],
+    classes: &[u16],
+    clients: &[u16],
+    o: Label,
+    kind: u16,
+) -> Ruling
+    requires { ⌜ Alongside (now row) (now classes) (now clients) × (length (now row) ≤ 512) × (writes kind ≡ false) ⌝ }
+    ensures { λ r. ⌜ rulingAnswer r ≡ ruledPast rival (now (row .entry)) (now (classes .entry)) (now (clients .entry)) o kind ⌝ }
+{
+    if rival < row.len() {
+        return Ruling::Rival(walks::folder_no(rival));
     }
     if kind == 2 {
         let stake = walks::find(Sort::AtStake, row, classes, clients, o);
         if stake < row.len() {
             return Ruling::AtStake(walks::folder_no(stake));
         }
-        return Ruling::Granted;
     }
     Ruling::Granted
 }
 
-// Whether the lists of pairs are looked at and do not fit: they are of unequal length or have over 256 pairs.
-fn pairs_unfit(by_pairs: bool, firsts: &[u16], seconds: &[u16]) -> bool
-    ensures { λ r. ⌜ r ≡ («by_pairs» && not (pairsFit (lentPairs firsts seconds))) ⌝ }
+// Rows 6 and 20 to 22, by classes; whatever pairs came with the register are not looked at.
+fn decide_by_classes(
+    row: &[u8],
+    classes: &[u16],
+    clients: &[u16],
+    folder: FolderNo,
+    kind: u16,
+) -> Ruling
+    requires { ⌜ listsFit (registerOf 0 (now classes) (now clients)) (now row) ≡ true ⌝ }
+    ensures { λ r. ⌜ ((firsts seconds : List ℕ) → rulingAnswer r ≡ ruled (rowAnswer (registerBy 0 (now (classes .entry)) (now (clients .entry)) false firsts seconds) (now (row .entry)) (folder .0) kind)) ⌝ }
 {
-    if by_pairs {
-        return !register_pairs::pairs_fit(firsts, seconds);
+    if row.len() <= folder.0 as usize {
+        return Ruling::UnknownFolder;
     }
-    false
+    let o = row_labels::label_of(classes, clients, folder);
+    let rival = walks::find(Sort::Rival, row, classes, clients, o);
+    if kinds::writes(kind) {
+        return rule_write(rival, row, classes, clients, o);
+    }
+    rule_read(rival, row, classes, clients, o, kind)
+}
+
+// By pairs, the rows 20 and 21 of a kind that enters a write right, and 20 and 22 of one that enters none. Each asks for the first rival itself: a
+// search that is called from two places is compiled apart from the request, which by classes is then as quick as without it.
+fn write_by_pairs(
+    row: &[u8],
+    classes: &[u16],
+    clients: &[u16],
+    firsts: &[u16],
+    seconds: &[u16],
+    o: Label,
+) -> Ruling
+    requires { ⌜ Alongside (now row) (now classes) (now clients) × (length (now row) ≤ 512) ⌝ }
+    ensures { λ r. ⌜ ((kind : ℕ) → writes kind ≡ true → rulingAnswer r ≡ ruledPast (firstOpposer (lentClients clients firsts seconds) (now (row .entry)) (o .client .0)) (now (row .entry)) (now (classes .entry)) (now (clients .entry)) o kind) ⌝ }
+{
+    let client = o.client;
+    let rival = row_pairs::first_opposer(row, clients, firsts, seconds, client);
+    rule_write(rival, row, classes, clients, o)
+}
+
+fn read_by_pairs(
+    row: &[u8],
+    classes: &[u16],
+    clients: &[u16],
+    firsts: &[u16],
+    seconds: &[u16],
+    o: Label,
+    kind: u16,
+) -> Ruling
+    requires { ⌜ Alongside (now row) (now classes) (now clients) × (length (now row) ≤ 512) × (writes kind ≡ false) ⌝ }
+    ensures { λ r. ⌜ rulingAnswer r ≡ ruledPast (firstOpposer (lentClients clients firsts seconds) (now (row .entry)) (o .client .0)) (now (row .entry)) (now (classes .entry)) (now (clients .entry)) o kind ⌝ }
+{
+    let client = o.client;
+    let rival = row_pairs::first_opposer(row, clients, firsts, seconds, client);
+    rule_read(rival, row, classes, clients, o, kind)
+}
+
+// Rows 11, 6 and 20 to 22, by pairs.
+fn decide_by_pairs(
+    row: &[u8],
+    classes: &[u16],
+    clients: &[u16],
+    firsts: &[u16],
+    seconds: &[u16],
+    folder: FolderNo,
+    kind: u16,
+) -> Ruling
+    requires { ⌜ listsFit (registerOf 0 (now classes) (now clients)) (now row) ≡ true ⌝ }
+    ensures { λ r. ⌜ rulingAnswer r ≡ ruled (rowAnswer (lentFoldersBy classes clients true firsts seconds) (now (row .entry)) (folder .0) kind) ⌝ }
+{
+    if !register_pairs::pairs_fit(firsts, seconds) {
+        return Ruling::BadPairs;
+    }
+    if row.len() <= folder.0 as usize {
+        return Ruling::UnknownFolder;
+    }
+    let o = row_labels::label_of(classes, clients, folder);
+    if kinds::writes(kind) {
+        return write_by_pairs(row, classes, clients, firsts, seconds, o);
+    }
+    read_by_pairs(row, classes, clients, firsts, seconds, o, kind)
 }
 
 // What a login whose row this is gets for a request of this folder and kind.
@@ -120,22 +177,10 @@ pub fn decide(
     if !row_labels::lists_fit(row, classes, clients) {
         return Ruling::Unfit;
     }
-    if pairs_unfit(by_pairs, firsts, seconds) {
-        return Ruling::BadPairs;
+    if by_pairs {
+        return decide_by_pairs(row, classes, clients, firsts, seconds, folder, kind);
     }
-    if row.len() <= folder.0 as usize {
-        return Ruling::UnknownFolder;
-    }
-    judge_wall(
-        row,
-        classes,
-        clients,
-        by_pairs,
-        firsts,
-        seconds,
-        folder,
-        kind,
-    )
+    decide_by_classes(row, classes, clients, folder, kind)
 }
 
 // Whether any folder loses its write right on a grant.

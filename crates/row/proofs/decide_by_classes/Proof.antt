@@ -1,0 +1,70 @@
+use Rattle.row.proofs.Cut.{says-unknown, says-wall, wall-past}
+use Rattle.row_labels.proofs.Fitting.{lists-are}
+use mathlib.Core.Path.{refl, sym, _∙_}
+use native.Mathlib.Omega.{arith}
+use borrow.Author.Needs.{needs}
+use Rattle.row.proofs.decide_by_classes.Statement.{statement}
+use Rattle.row.proofs.decide_by_classes.Tie as tie
+use Rattle.row.proofs.decide_by_classes.Reads as reads
+use Rattle.row.proofs.decide_by_classes.Lts as lts
+use Rattle.kinds.proofs.writes.Reads as writes-reads
+use Rattle.row.proofs.rule_read.Reads as rule-read-reads
+use Rattle.row.proofs.rule_write.Reads as rule-write-reads
+use Rattle.row.proofs.walks.find.Reads as find-reads
+use Rattle.row_labels.proofs.label_of.Reads as label-of-reads
+
+-- src/lib.rt:92:21
+cast-if1 : tie.Need-cast-if1
+cast-if1 c = search needs
+
+-- src/lib.rt:93:9
+returns : tie.Need-returns
+returns c =
+    λ firsts seconds. says-unknown _ _ _ _ (c .before .before .before .before .before .pre) refl (c .if1 .taken)
+
+-- src/lib.rt:95:9
+label-of-requires : tie.Need-label-of-requires
+label-of-requires c κs = search needs
+
+-- src/lib.rt:96:9
+find-requires : tie.Need-find-requires
+find-requires c κs =
+    lists-are _ _ (c .before .before .before .before .before .before .pre) .0
+
+-- src/lib.rt:97:8
+writes-requires : tie.Need-writes-requires
+writes-requires c κs = search needs
+
+-- src/lib.rt:98:9
+rule-write-requires : tie.Need-rule-write-requires
+rule-write-requires c κs =
+    let l = lists-are _ _ (c .before .before .before .before .before .before .before .before .before .pre) in (l .0, l .1)
+
+-- src/lib.rt:98:9
+returns-2 : tie.Need-returns-2
+returns-2 c =
+    λ firsts seconds. says-wall _ _ _ _ (c .before .before .before .before .before .before .before .before .before .before .pre) refl (c .before .before .before .before .before .if1 .left) (c .rule-write .ensures _ (sym (c .before .before .writes .ensures) ∙ c .before .if2 .taken) ∙ wall-past _ _ (lists-are _ _ (c .before .before .before .before .before .before .before .before .before .before .pre) .0) refl _ _ _ (c .before .before .before .before .label-of .ensures) (c .before .before .before .find .ensures))
+
+-- src/lib.rt:100:5
+rule-read-requires : tie.Need-rule-read-requires
+rule-read-requires c κs =
+    let l = lists-are _ _ (c .before .before .before .before .before .before .before .before .before .pre) in (l .0, l .1, sym (c .before .writes .ensures) ∙ c .if2 .left)
+
+-- src/lib.rt:82:1
+returns-3 : tie.Need-returns-3
+returns-3 c =
+    λ firsts seconds. says-wall _ _ _ _ (c .before .before .before .before .before .before .before .before .before .before .pre) refl (c .before .before .before .before .before .if1 .left) (c .rule-read .ensures ∙ wall-past _ _ (lists-are _ _ (c .before .before .before .before .before .before .before .before .before .before .pre) .0) refl _ _ _ (c .before .before .before .before .label-of .ensures) (c .before .before .before .find .ensures))
+
+pub decide-by-classes-spec : {M : Type 1} → statement M
+decide-by-classes-spec =
+    tie.close
+    (tie.spec
+    cast-if1
+    returns
+    label-of-requires
+    find-requires
+    writes-requires
+    rule-write-requires
+    returns-2
+    rule-read-requires
+    returns-3)
