@@ -10,11 +10,10 @@ ghost use mathlib.Core.Bool.{true, false};
 ghost use mathlib.Core.List.{List};
 ghost use lib.ListN.{length};
 ghost use Rattle.vocabulary.specs.Those.{some};
-ghost use Rattle.register.specs.Register.{registerBy, registerOf};
+ghost use Rattle.register.specs.Register.{registerBy};
 ghost use Rattle.register.specs.Lent.{lentClients, lentFolders, lentFoldersBy};
 ghost use Rattle.policy.specs.Rules.{writes};
 ghost use Rattle.row_labels.specs.Cut.{Alongside};
-ghost use Rattle.row_labels.specs.Fitting.{listsFit};
 ghost use Rattle.row_marks.specs.Opposed.{firstOpposer};
 ghost use Rattle.row.specs.Cut.{ruledPast};
 ghost use Rattle.row.specs.Row.{rowAnswer, rulingAnswer, ruled, lostOn};
@@ -78,17 +77,19 @@ fn rule_read(
     Ruling::Granted
 }
 
-// Rows 6 and 20 to 22, by classes; whatever pairs came with the register are not looked at.
-fn decide_by_classes(
+// What a login whose row this is gets for a request of this folder and kind, by classes; whatever pairs came with the register are not looked at.
+pub fn decide_by_classes(
     row: &[u8],
     classes: &[u16],
     clients: &[u16],
     folder: FolderNo,
     kind: u16,
 ) -> Ruling
-    requires { ⌜ listsFit (registerOf 0 (now classes) (now clients)) (now row) ≡ true ⌝ }
     ensures { λ r. ⌜ ((firsts seconds : List ℕ) → rulingAnswer r ≡ ruled (rowAnswer (registerBy 0 (now (classes .entry)) (now (clients .entry)) false firsts seconds) (now (row .entry)) (folder .0) kind)) ⌝ }
 {
+    if !row_labels::lists_fit(row, classes, clients) {
+        return Ruling::Unfit;
+    }
     if row.len() <= folder.0 as usize {
         return Ruling::UnknownFolder;
     }
@@ -135,8 +136,8 @@ fn read_by_pairs(
     rule_read(rival, row, classes, clients, o, kind)
 }
 
-// Rows 11, 6 and 20 to 22, by pairs.
-fn decide_by_pairs(
+// The same by pairs.
+pub fn decide_by_pairs(
     row: &[u8],
     classes: &[u16],
     clients: &[u16],
@@ -145,9 +146,11 @@ fn decide_by_pairs(
     folder: FolderNo,
     kind: u16,
 ) -> Ruling
-    requires { ⌜ listsFit (registerOf 0 (now classes) (now clients)) (now row) ≡ true ⌝ }
     ensures { λ r. ⌜ rulingAnswer r ≡ ruled (rowAnswer (lentFoldersBy classes clients true firsts seconds) (now (row .entry)) (folder .0) kind) ⌝ }
 {
+    if !row_labels::lists_fit(row, classes, clients) {
+        return Ruling::Unfit;
+    }
     if !register_pairs::pairs_fit(firsts, seconds) {
         return Ruling::BadPairs;
     }
@@ -159,28 +162,6 @@ fn decide_by_pairs(
         return write_by_pairs(row, classes, clients, firsts, seconds, o);
     }
     read_by_pairs(row, classes, clients, firsts, seconds, o, kind)
-}
-
-// What a login whose row this is gets for a request of this folder and kind.
-pub fn decide(
-    row: &[u8],
-    classes: &[u16],
-    clients: &[u16],
-    by_pairs: bool,
-    firsts: &[u16],
-    seconds: &[u16],
-    folder: FolderNo,
-    kind: u16,
-) -> Ruling
-    ensures { λ r. ⌜ rulingAnswer r ≡ ruled (rowAnswer (lentFoldersBy classes clients «by_pairs» firsts seconds) (now (row .entry)) (folder .0) kind) ⌝ }
-{
-    if !row_labels::lists_fit(row, classes, clients) {
-        return Ruling::Unfit;
-    }
-    if by_pairs {
-        return decide_by_pairs(row, classes, clients, firsts, seconds, folder, kind);
-    }
-    decide_by_classes(row, classes, clients, folder, kind)
 }
 
 // Whether any folder loses its write right on a grant.

@@ -61,13 +61,21 @@ pub fn decide_row(
     if size < tail.end {
         return Decision::Refused(Response::BadEnd);
     }
-    by_ruling(row::decide(
+    if by_pairs {
+        return by_ruling(row::decide_by_pairs(
+            row,
+            classes,
+            clients,
+            firsts,
+            seconds,
+            asked.folder,
+            asked.kind,
+        ));
+    }
+    by_ruling(row::decide_by_classes(
         row,
         classes,
         clients,
-        by_pairs,
-        firsts,
-        seconds,
         asked.folder,
         asked.kind,
     ))

@@ -1,5 +1,6 @@
-use Rattle.row.proofs.Cut.{says-unknown, says-wall, wall-past}
+use Rattle.row.proofs.Cut.{says-unfit, says-unknown, says-wall, wall-past}
 use Rattle.row_labels.proofs.Fitting.{lists-are}
+use borrow.Author.Tests.{not-true, not-false}
 use mathlib.Core.Path.{refl, sym, _∙_}
 use native.Mathlib.Omega.{arith}
 use borrow.Author.Needs.{needs}
@@ -12,59 +13,75 @@ use Rattle.row.proofs.rule_read.Reads as rule-read-reads
 use Rattle.row.proofs.rule_write.Reads as rule-write-reads
 use Rattle.row.proofs.walks.find.Reads as find-reads
 use Rattle.row_labels.proofs.label_of.Reads as label-of-reads
+use Rattle.row_labels.proofs.lists_fit.Reads as lists-fit-reads
 
--- src/lib.rt:92:21
-cast-if1 : tie.Need-cast-if1
-cast-if1 c = search needs
+-- src/lib.rt:90:9
+lists-fit-requires : tie.Need-lists-fit-requires
+lists-fit-requires c κs = search needs
 
--- src/lib.rt:93:9
+-- src/lib.rt:91:9
 returns : tie.Need-returns
 returns c =
-    λ firsts seconds. says-unknown _ _ _ _ (c .before .before .before .before .before .pre) refl (c .if1 .taken)
+    λ firsts seconds. says-unfit _ _ _ _ (sym (c .before .lists-fit .ensures) ∙ not-true _ (c .if1 .taken))
 
--- src/lib.rt:95:9
+-- src/lib.rt:93:21
+cast-if2 : tie.Need-cast-if2
+cast-if2 c = search needs
+
+-- src/lib.rt:94:9
+returns-2 : tie.Need-returns-2
+returns-2 c =
+    let listed = sym (c .before .before .before .lists-fit .ensures) ∙ not-false _ (c .before .before .if1 .left) in
+    λ firsts seconds. says-unknown _ _ _ _ listed refl (c .if2 .taken)
+
+-- src/lib.rt:96:9
 label-of-requires : tie.Need-label-of-requires
 label-of-requires c κs = search needs
 
--- src/lib.rt:96:9
+-- src/lib.rt:97:9
 find-requires : tie.Need-find-requires
 find-requires c κs =
-    lists-are _ _ (c .before .before .before .before .before .before .pre) .0
+    lists-are _ _ (sym (c .before .before .before .before .lists-fit .ensures) ∙ not-false _ (c .before .before .before .if1 .left)) .0
 
--- src/lib.rt:97:8
+-- src/lib.rt:98:8
 writes-requires : tie.Need-writes-requires
 writes-requires c κs = search needs
 
--- src/lib.rt:98:9
+-- src/lib.rt:99:9
 rule-write-requires : tie.Need-rule-write-requires
 rule-write-requires c κs =
-    let l = lists-are _ _ (c .before .before .before .before .before .before .before .before .before .pre) in (l .0, l .1)
+    let l = lists-are _ _ (sym (c .before .before .before .before .before .before .before .lists-fit .ensures) ∙ not-false _ (c .before .before .before .before .before .before .if1 .left)) in (l .0, l .1)
 
--- src/lib.rt:98:9
-returns-2 : tie.Need-returns-2
-returns-2 c =
-    λ firsts seconds. says-wall _ _ _ _ (c .before .before .before .before .before .before .before .before .before .before .pre) refl (c .before .before .before .before .before .if1 .left) (c .rule-write .ensures _ (sym (c .before .before .writes .ensures) ∙ c .before .if2 .taken) ∙ wall-past _ _ (lists-are _ _ (c .before .before .before .before .before .before .before .before .before .before .pre) .0) refl _ _ _ (c .before .before .before .before .label-of .ensures) (c .before .before .before .find .ensures))
-
--- src/lib.rt:100:5
-rule-read-requires : tie.Need-rule-read-requires
-rule-read-requires c κs =
-    let l = lists-are _ _ (c .before .before .before .before .before .before .before .before .before .pre) in (l .0, l .1, sym (c .before .writes .ensures) ∙ c .if2 .left)
-
--- src/lib.rt:82:1
+-- src/lib.rt:99:9
 returns-3 : tie.Need-returns-3
 returns-3 c =
-    λ firsts seconds. says-wall _ _ _ _ (c .before .before .before .before .before .before .before .before .before .before .pre) refl (c .before .before .before .before .before .if1 .left) (c .rule-read .ensures ∙ wall-past _ _ (lists-are _ _ (c .before .before .before .before .before .before .before .before .before .before .pre) .0) refl _ _ _ (c .before .before .before .before .label-of .ensures) (c .before .before .before .find .ensures))
+    let listed = sym (c .before .before .before .before .before .before .before .before .lists-fit .ensures) ∙ not-false _ (c .before .before .before .before .before .before .before .if1 .left) in
+    let w = sym (c .before .before .writes .ensures) ∙ c .before .if3 .taken in
+    λ firsts seconds. says-wall _ _ _ _ listed refl (c .before .before .before .before .before .if2 .left) (c .rule-write .ensures _ w ∙ wall-past _ _ (lists-are _ _ listed .0) refl _ _ _ (c .before .before .before .before .label-of .ensures) (c .before .before .before .find .ensures))
+
+-- src/lib.rt:101:5
+rule-read-requires : tie.Need-rule-read-requires
+rule-read-requires c κs =
+    let l = lists-are _ _ (sym (c .before .before .before .before .before .before .before .lists-fit .ensures) ∙ not-false _ (c .before .before .before .before .before .before .if1 .left)) in (l .0, l .1, sym (c .before .writes .ensures) ∙ c .if3 .left)
+
+-- src/lib.rt:81:1
+returns-4 : tie.Need-returns-4
+returns-4 c =
+    let listed = sym (c .before .before .before .before .before .before .before .before .lists-fit .ensures) ∙ not-false _ (c .before .before .before .before .before .before .before .if1 .left) in
+    λ firsts seconds. says-wall _ _ _ _ listed refl (c .before .before .before .before .before .if2 .left) (c .rule-read .ensures ∙ wall-past _ _ (lists-are _ _ listed .0) refl _ _ _ (c .before .before .before .before .label-of .ensures) (c .before .before .before .find .ensures))
 
 pub decide-by-classes-spec : {M : Type 1} → statement M
 decide-by-classes-spec =
     tie.close
     (tie.spec
-    cast-if1
+    lists-fit-requires
     returns
+    cast-if2
+    returns-2
     label-of-requires
     find-requires
     writes-requires
     rule-write-requires
-    returns-2
+    returns-3
     rule-read-requires
-    returns-3)
+    returns-4)
