@@ -35,6 +35,16 @@ pub writes-other : (kind : ℕ) → writes kind ≡ true → eqb kind 2 ≡ fals
 writes-other kind e =
     ⊎-elim (λ a. rw (eqb-true kind 3 a)) (λ a. rw (eqb-true kind 4 a)) (either (eqb kind 3) (eqb kind 4) e)
 
+-- Row 20 by what is found: the first rival, or none.
+module _ (row classes clients : List ℕ) (l : Label) (kind : ℕ) {n : ℕ} where
+  pub ruledPast-rival : n < length row → answer 20 (n ∷ []) ≡ ruledPast n row classes clients l kind
+  unfolding ruledPast judge
+  ruledPast-rival h = rw (lt-leb (length row) n h)
+
+  pub ruledPast-none : length row ≤ n → ruledPast (length row) row classes clients l kind ≡ ruledPast n row classes clients l kind
+  unfolding ruledPast judge
+  ruledPast-none h = rw (le-leb (length row) n h, le-leb (length row) (length row) (omega arith))
+
 -- Whether the lists of pairs fit is asked of them alone.
 abbrev pub alone : Register → Register
 alone r = registerBy 0 [] [] true (r .firsts) (r .seconds)

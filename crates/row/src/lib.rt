@@ -38,14 +38,11 @@ pub enum Ruling {
     AtStake(FolderNo),
 }
 
-// Rows 20 and 21 of the table, for a kind that enters a write right; `rival` is the first, or the row's length.
-fn rule_write(rival: usize, row: &[u8], classes: &[u16], clients: &[u16], o: Label) -> Ruling
+// Row 21 of the table, for a kind that enters a write right, where there is no rival.
+fn rule_write(row: &[u8], classes: &[u16], clients: &[u16], o: Label) -> Ruling
     requires { ⌜ Alongside (now row) (now classes) (now clients) × (length (now row) ≤ 512) ⌝ }
-    ensures { λ r. ⌜ ((kind : ℕ) → writes kind ≡ true → rulingAnswer r ≡ ruledPast rival (now (row .entry)) (now (classes .entry)) (now (clients .entry)) o kind) ⌝ }
+    ensures { λ r. ⌜ ((kind : ℕ) → writes kind ≡ true → rulingAnswer r ≡ ruledPast (length (now (row .entry))) (now (row .entry)) (now (classes .entry)) (now (clients .entry)) o kind) ⌝ }
 {
-    if rival < row.len() {
-        return Ruling::Rival(walks::folder_no(rival));
-    }
     let foreign = walks::find(Sort::Foreign, row, classes, clients, o);
     if foreign < row.len() {
         return Ruling::Foreign(walks::folder_no(foreign));
@@ -53,21 +50,11 @@ fn rule_write(rival: usize, row: &[u8], classes: &[u16], clients: &[u16], o: Lab
     Ruling::Granted
 }
 
-// Rows 20 and 22 of the table, for a kind that enters none.
-fn rule_read(
-    rival: usize,
-    row: &[u8],
-    classes: &[u16],
-    clients: &[u16],
-    o: Label,
-    kind: u16,
-) -> Ruling
+// Row 22 of the table, for a kind that enters none, where there is no rival.
+fn rule_read(row: &[u8], classes: &[u16], clients: &[u16], o: Label, kind: u16) -> Ruling
     requires { ⌜ Alongside (now row) (now classes) (now clients) × (length (now row) ≤ 512) × (writes kind ≡ false) ⌝ }
-    ensures { λ r. ⌜ rulingAnswer r ≡ ruledPast rival (now (row .entry)) (now (classes .entry)) (now (clients .entry)) o kind ⌝ }
+    ensures { λ r. ⌜ rulingAnswer r ≡ ruledPast (length (now (row .entry))) (now (row .entry)) (now (classes .entry)) (now (clients .entry)) o kind ⌝ }
 {
-    if rival < row.len() {
-        return Ruling::Rival(walks::folder_no(rival));
-    }
     if kind == 2 {
         let stake = walks::find(Sort::AtStake, row, classes, clients, o);
         if stake < row.len() {
@@ -95,10 +82,13 @@ pub fn decide_by_classes(
     }
     let o = row_labels::label_of(classes, clients, folder);
     let rival = walks::find(Sort::Rival, row, classes, clients, o);
-    if kinds::writes(kind) {
-        return rule_write(rival, row, classes, clients, o);
+    if rival < row.len() {
+        return Ruling::Rival(walks::folder_no(rival));
     }
-    rule_read(rival, row, classes, clients, o, kind)
+    if kinds::writes(kind) {
+        return rule_write(row, classes, clients, o);
+    }
+    rule_read(row, classes, clients, o, kind)
 }
 
 // By pairs, the rows 20 and 21 of a kind that enters a write right, and 20 and 22 of one that enters none. Each asks for the first rival itself: a
@@ -115,8 +105,11 @@ fn write_by_pairs(
     ensures { λ r. ⌜ ((kind : ℕ) → writes kind ≡ true → rulingAnswer r ≡ ruledPast (firstOpposer (lentClients clients firsts seconds) (now (row .entry)) (o .client .0)) (now (row .entry)) (now (classes .entry)) (now (clients .entry)) o kind) ⌝ }
 {
     let client = o.client;
-    let rival = row_pairs::first_opposer(row, clients, firsts, seconds, client);
-    rule_write(rival, row, classes, clients, o)
+    let opposer = row_pairs::first_opposer(row, clients, firsts, seconds, client);
+    if opposer < row.len() {
+        return Ruling::Rival(walks::folder_no(opposer));
+    }
+    rule_write(row, classes, clients, o)
 }
 
 fn read_by_pairs(
@@ -132,8 +125,11 @@ fn read_by_pairs(
     ensures { λ r. ⌜ rulingAnswer r ≡ ruledPast (firstOpposer (lentClients clients firsts seconds) (now (row .entry)) (o .client .0)) (now (row .entry)) (now (classes .entry)) (now (clients .entry)) o kind ⌝ }
 {
     let client = o.client;
-    let rival = row_pairs::first_opposer(row, clients, firsts, seconds, client);
-    rule_read(rival, row, classes, clients, o, kind)
+    let opposer = row_pairs::first_opposer(row, clients, firsts, seconds, client);
+    if opposer < row.len() {
+        return Ruling::Rival(walks::folder_no(opposer));
+    }
+    rule_read(row, classes, clients, o, kind)
 }
 
 // The same by pairs.

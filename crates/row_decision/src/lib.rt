@@ -72,11 +72,5 @@ pub fn decide_row(
             asked.kind,
         ));
     }
-    by_ruling(row::decide_by_classes(
-        row,
-        classes,
-        clients,
-        asked.folder,
-        asked.kind,
-    ))
+    by_ruling(row::decide_by_classes(row, classes, clients, asked.folder, asked.kind))
 }
