@@ -54,13 +54,13 @@ fn first_from(row: &[u8], clients: &[u16], bits: &[u64; 1024], start: usize) -> 
     f
 }
 
-// The first such folder, or the row's length. Twelve at a turn, until one is found; how far the twelves reach is asked once, not at each turn. A
-// branch for each three: with one for six the compiler takes four indices through a vector register and back, which is slower.
+// The first such folder, or the row's length. Six at a turn, until one is found; how far the sixes reach is asked once, not at each turn. A branch
+// for each three: with one for all six the compiler takes four indices through a vector register and back, which is slower.
 pub(crate) fn first(row: &[u8], clients: &[u16], bits: &[u64; 1024]) -> usize
     requires { ⌜ length (now clients) ≡ length (now row) ⌝ }
     ensures { λ r. ⌜ r ≡ firstRead (now (row .entry)) (now (clients .entry)) (now (bits .entry)) ⌝ }
 {
-    let whole = row.len() - row.len() % 12;
+    let whole = row.len() - row.len() % 6;
     let mut f = 0;
     while f < whole {
         if found_three(row, clients, bits, f) % 2 == 1 {
@@ -69,13 +69,7 @@ pub(crate) fn first(row: &[u8], clients: &[u16], bits: &[u64; 1024]) -> usize
         if found_three(row, clients, bits, f + 3) % 2 == 1 {
             return first_from(row, clients, bits, f + 3);
         }
-        if found_three(row, clients, bits, f + 6) % 2 == 1 {
-            return first_from(row, clients, bits, f + 6);
-        }
-        if found_three(row, clients, bits, f + 9) % 2 == 1 {
-            return first_from(row, clients, bits, f + 9);
-        }
-        f += 12;
+        f += 6;
     }
     first_from(row, clients, bits, f)
 }

@@ -1,9 +1,9 @@
 -- `first` meets its contract: no folder of the threes that the walk has passed is found.
-use Prim.Native.Nat.{ℕ, _+_, _%_, _≤_, _-_}
-use mathlib.Core.Path.{_≡_, refl, sym, _∙_}
+use Prim.Native.Nat.{_%_, _≤_, _-_}
+use mathlib.Core.Path.{_≡_, refl}
 use mathlib.Core.List.{[]}
 use Rattle.vocabulary.specs.Those.{those}
-use Rattle.row_marks.proofs.Threes.{those-none-three}
+use Rattle.row_marks.proofs.Threes.{those-none-three, those-none-six}
 use Rattle.row_marks.specs.Marks.{readMarked}
 use borrow.Author.Tests.{ne-eqb}
 use native.Mathlib.Omega.{arith}
@@ -12,32 +12,10 @@ use Rattle.row_marks.proofs.walk.first.Statement.{statement}
 use Rattle.row_marks.proofs.walk.first.Tie as tie
 
 abbrev Inv-loop : tie.InvT-loop
-Inv-loop row clients bits whole f₀ f = (f ≤ whole) × ((f % 12 ≡ 0) × (those (readMarked row clients bits) f ≡ []))
+Inv-loop row clients bits whole f₀ f = (f ≤ whole) × ((f % 6 ≡ 0) × (those (readMarked row clients bits) f ≡ []))
 
 abbrev μ-loop : tie.MeasureT-loop
 μ-loop row clients bits whole f₀ f = whole - f
-
--- No folder is found below the one that stands n after the turn's first.
-abbrev Passed : tie.In-loop Inv-loop μ-loop → ℕ → Type 0
-Passed c n =
-    let a = c .before .before .before .before .args in
-    those (readMarked (a .row .now) (a .clients .now) (a .bits .now)) (c .before .loop .f + n) ≡ []
-
-passed-three : (c : tie.Else1 Inv-loop μ-loop) → Passed (c .before .before) 3
-passed-three c =
-    those-none-three _ _ _ (omega arith) (c .before .before .before .loop .inv .1 .1) (sym (c .before .found-three .ensures) ∙ ne-eqb _ _ (c .if1 .left))
-
-passed-six : (c : tie.Else2 Inv-loop μ-loop) → Passed (c .before .before .before .before) 6
-passed-six c =
-    those-none-three _ _ _ (omega arith) (passed-three (c .before .before)) (sym (c .before .found-three2 .ensures) ∙ ne-eqb _ _ (c .if2 .left))
-
-passed-nine : (c : tie.Else3 Inv-loop μ-loop) → Passed (c .before .before .before .before .before .before) 9
-passed-nine c =
-    those-none-three _ _ _ (omega arith) (passed-six (c .before .before)) (sym (c .before .found-three3 .ensures) ∙ ne-eqb _ _ (c .if3 .left))
-
-passed-twelve : (c : tie.Else4 Inv-loop μ-loop) → Passed (c .before .before .before .before .before .before .before .before) 12
-passed-twelve c =
-    those-none-three _ _ _ (omega arith) (passed-nine (c .before .before)) (sym (c .before .found-three4 .ensures) ∙ ne-eqb _ _ (c .if4 .left))
 
 sub-whole : tie.Need-sub-whole Inv-loop μ-loop
 sub-whole c = search needs
@@ -68,45 +46,12 @@ add-first-from c = search needs
 
 first-from-requires-2 : tie.Need-first-from-requires-2 Inv-loop μ-loop
 first-from-requires-2 c κs =
-    (search needs, (omega arith, passed-three (c .before .before)))
+    let low = rw (c .before .before .before .found-three .ensures) at (ne-eqb _ _ (c .before .before .if1 .left)) in
+    (search needs, (omega arith, those-none-three _ _ (c .before .before .before .before .before .loop .inv .1 .1) low))
 
 returns-2 : tie.Need-returns-2 Inv-loop μ-loop
 returns-2 c =
     c .first-from2 .ensures
-
-add-found-three-2 : tie.Need-add-found-three-2 Inv-loop μ-loop
-add-found-three-2 c = search needs
-
-found-three-requires-3 : tie.Need-found-three-requires-3 Inv-loop μ-loop
-found-three-requires-3 c κs = search needs
-
-add-first-from-2 : tie.Need-add-first-from-2 Inv-loop μ-loop
-add-first-from-2 c = search needs
-
-first-from-requires-3 : tie.Need-first-from-requires-3 Inv-loop μ-loop
-first-from-requires-3 c κs =
-    (search needs, (omega arith, passed-six (c .before .before)))
-
-returns-3 : tie.Need-returns-3 Inv-loop μ-loop
-returns-3 c =
-    c .first-from3 .ensures
-
-add-found-three-3 : tie.Need-add-found-three-3 Inv-loop μ-loop
-add-found-three-3 c = search needs
-
-found-three-requires-4 : tie.Need-found-three-requires-4 Inv-loop μ-loop
-found-three-requires-4 c κs = search needs
-
-add-first-from-3 : tie.Need-add-first-from-3 Inv-loop μ-loop
-add-first-from-3 c = search needs
-
-first-from-requires-4 : tie.Need-first-from-requires-4 Inv-loop μ-loop
-first-from-requires-4 c κs =
-    (search needs, (omega arith, passed-nine (c .before .before)))
-
-returns-4 : tie.Need-returns-4 Inv-loop μ-loop
-returns-4 c =
-    c .first-from4 .ensures
 
 add-f : tie.Need-add-f Inv-loop μ-loop
 add-f c = search needs
@@ -116,14 +61,16 @@ loop-less c = search needs
 
 loop-again : tie.Need-loop-again Inv-loop μ-loop
 loop-again c =
-    (omega arith, (omega arith, passed-twelve c))
+    let low = rw (c .before .before .before .found-three .ensures) at (ne-eqb _ _ (c .before .before .if1 .left)) in
+    let high = rw (c .before .found-three2 .ensures) at (ne-eqb _ _ (c .if2 .left)) in
+    (omega arith, (omega arith, those-none-six _ _ (c .before .before .before .before .before .loop .inv .1 .1) low high))
 
-first-from-requires-5 : tie.Need-first-from-requires-5 Inv-loop μ-loop
-first-from-requires-5 c κs = search needs
+first-from-requires-3 : tie.Need-first-from-requires-3 Inv-loop μ-loop
+first-from-requires-3 c κs = search needs
 
-returns-5 : tie.Need-returns-5 Inv-loop μ-loop
-returns-5 c =
-    c .first-from5 .ensures
+returns-3 : tie.Need-returns-3 Inv-loop μ-loop
+returns-3 c =
+    c .first-from3 .ensures
 
 pub first-spec : {M : Type 1} → statement M
 first-spec =
@@ -141,18 +88,8 @@ first-spec =
     add-first-from
     first-from-requires-2
     returns-2
-    add-found-three-2
-    found-three-requires-3
-    add-first-from-2
-    first-from-requires-3
-    returns-3
-    add-found-three-3
-    found-three-requires-4
-    add-first-from-3
-    first-from-requires-4
-    returns-4
     add-f
     loop-less
     loop-again
-    first-from-requires-5
-    returns-5)
+    first-from-requires-3
+    returns-3)
