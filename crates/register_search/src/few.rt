@@ -38,7 +38,6 @@ fn clashes_by(classes: &[u16], clients: &[u16], mark: usize, f: usize) -> bool
 }
 
 // The first folder that differs in class alone from an earlier one, or F. No folder that the loop has passed does, and each has left its mark.
-// A folder leaves its own before the one found there is judged: a store after that test costs moves.
 pub(crate) fn walk_few(classes: &[u16], clients: &[u16]) -> usize
     requires { ⌜ (length (now classes) ≤ 64) × (length (now classes) ≡ length (now clients)) ⌝ }
     ensures { λ r. ⌜ r ≡ getD (later (registerOf 0 (now (classes .entry)) (now (clients .entry)))) 0 (length (now (classes .entry))) ⌝ }
@@ -47,14 +46,12 @@ pub(crate) fn walk_few(classes: &[u16], clients: &[u16]) -> usize
     let mut f = 0;
     while f < classes.len() {
         let place = (clients[f] % 128) as usize;
-        let earlier = marks[place] as usize;
-        let next = f + 1;
-        marks[place] = next as u8;
-        let mark = told_by(clients, earlier, f);
+        let mark = told_by(clients, marks[place] as usize, f);
         if clashes_by(classes, clients, mark, f) {
             return f;
         }
-        f = next;
+        marks[place] = (f + 1) as u8;
+        f += 1;
     }
     f
 }

@@ -32,21 +32,12 @@ shared-slice-read-place c = search needs
 cast-place : tie.Need-cast-place Inv-loop μ-loop
 cast-place c = search needs
 
-array-read-earlier : tie.Need-array-read-earlier Inv-loop μ-loop
-array-read-earlier c = search needs
+array-read-told-by : tie.Need-array-read-told-by Inv-loop μ-loop
+array-read-told-by c = search needs
 
-cast-earlier : tie.Need-cast-earlier Inv-loop μ-loop
-cast-earlier c =
+cast-told-by : tie.Need-cast-told-by Inv-loop μ-loop
+cast-told-by c =
     search (needs, c .before .before .loop .inv .1 .1 .within (markOf (getD (c .before .before .before .before .before .args .clients .now) (c .before .before .loop .f) 0)) (omega arith))
-
-add-next : tie.Need-add-next Inv-loop μ-loop
-add-next c = search needs
-
-cast-marks : tie.Need-cast-marks Inv-loop μ-loop
-cast-marks c = search needs
-
-array-write-marks : tie.Need-array-write-marks Inv-loop μ-loop
-array-write-marks c = search needs
 
 told-by-requires : tie.Need-told-by-requires Inv-loop μ-loop
 told-by-requires c κs =
@@ -60,6 +51,18 @@ returns : tie.Need-returns Inv-loop μ-loop
 unfolding later
 returns c =
     sym (first-found _ _ _ _ (c .before .before .before .before .before .loop .inv .1 .0) (sym (c .before .clashes-by .ensures) ∙ c .if1 .taken) (c .before .before .before .before .loop-test .taken))
+
+add-marks : tie.Need-add-marks Inv-loop μ-loop
+add-marks c = search needs
+
+cast-marks : tie.Need-cast-marks Inv-loop μ-loop
+cast-marks c = search needs
+
+array-write-marks : tie.Need-array-write-marks Inv-loop μ-loop
+array-write-marks c = search needs
+
+add-f : tie.Need-add-f Inv-loop μ-loop
+add-f c = search needs
 
 loop-less : tie.Need-loop-less Inv-loop μ-loop
 loop-less c = search needs
@@ -83,14 +86,15 @@ walk-few-spec =
     mul-place
     shared-slice-read-place
     cast-place
-    array-read-earlier
-    cast-earlier
-    add-next
-    cast-marks
-    array-write-marks
+    array-read-told-by
+    cast-told-by
     told-by-requires
     clashes-by-requires
     returns
+    add-marks
+    cast-marks
+    array-write-marks
+    add-f
     loop-less
     loop-again
     returns-2)
