@@ -6,7 +6,6 @@ mod table; // among many, by a table
 
 use crate::few::walk_few;
 use crate::scan::first_earlier;
-use crate::scan::search_from;
 use crate::table::walk_later;
 use ids::FolderNo;
 ghost use Prim.Native.Nat.{_≤_};
@@ -30,15 +29,11 @@ fn lists_fit(classes: &[u16], clients: &[u16]) -> bool
     (classes.len() <= 512) & (classes.len() == clients.len())
 }
 
-// The first folder that differs in class alone from an earlier one, or F. With few folders, marks are quicker than emptying the table; with
-// four or fewer, emptying the marks costs more than to compare each folder with all earlier ones.
+// The first folder that differs in class alone from an earlier one, or F. With few folders, marks are quicker than emptying the table.
 fn first_later(classes: &[u16], clients: &[u16]) -> usize
     requires { ⌜ (length (now classes) ≤ 512) × (length (now classes) ≡ length (now clients)) ⌝ }
     ensures { λ r. ⌜ r ≡ getD (later (registerOf 0 (now (classes .entry)) (now (clients .entry)))) 0 (length (now (classes .entry))) ⌝ }
 {
-    if classes.len() <= 4 {
-        return search_from(classes, clients, 0);
-    }
     if classes.len() <= 64 {
         return walk_few(classes, clients);
     }
