@@ -4,7 +4,7 @@ mod groups; // the folders of listed clients, sought by four clients at a time
 mod listing; // the opponents, counted and listed
 
 use crate::groups::first_among;
-use crate::listing::count_few;
+use crate::listing::count_named;
 use crate::listing::list_opponents;
 use ids::ClientNo;
 ghost use mathlib.Core.Path.{_≡_};
@@ -25,7 +25,7 @@ pub fn first_opposer(
     if !row_marks::fits(row, clients, firsts, seconds) {
         return row.len();
     }
-    let count = count_few(firsts, seconds, client);
+    let count = count_named(firsts, seconds, client);
     if count == 0 {
         return row.len();
     }

@@ -6,7 +6,7 @@ ghost use lib.ListN.{length};
 ghost use Rattle.row_pairs.specs.Opponents.{named, opponents, most, Gathered};
 
 // How many pairs name the client. Without a branch in the loop and in 16 bits, so that it goes over several pairs at once.
-fn count_named(firsts: &[u16], seconds: &[u16], client: ClientNo) -> u16
+pub(crate) fn count_named(firsts: &[u16], seconds: &[u16], client: ClientNo) -> u16
     requires { ⌜ (length (now firsts) ≡ length (now seconds)) × (length (now firsts) ≤ 256) ⌝ }
     ensures { λ r. ⌜ r ≡ named (now (firsts .entry)) (now (seconds .entry)) (client .0) ⌝ }
 {
@@ -19,20 +19,6 @@ fn count_named(firsts: &[u16], seconds: &[u16], client: ClientNo) -> u16
         i += 1;
     }
     count
-}
-
-// How many pairs name the client, as far as they are at most 32: where more of the first 64 do, the others are not counted.
-pub(crate) fn count_few(firsts: &[u16], seconds: &[u16], client: ClientNo) -> u16
-    requires { ⌜ (length (now firsts) ≡ length (now seconds)) × (length (now firsts) ≤ 256) ⌝ }
-    ensures { λ r. ⌜ (r ≤ most → r ≡ named (now (firsts .entry)) (now (seconds .entry)) (client .0)) ⌝ }
-{
-    if 64 < firsts.len() {
-        let count = count_named(&firsts[0..64], &seconds[0..64], client);
-        if 32 < count {
-            return count;
-        }
-    }
-    count_named(firsts, seconds, client)
 }
 
 // Lists the opponents, and says how many there are.

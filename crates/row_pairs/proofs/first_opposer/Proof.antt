@@ -34,13 +34,13 @@ returns : tie.Need-returns
 returns c =
     first-unfitted _ _ _ (sym (c .before .fits2 .ensures) ∙ not-true _ (c .if1 .taken))
 
-count-few-requires : tie.Need-count-few-requires
-count-few-requires c κs = fitted-lengths (asked c) (itsRow c) (fit c) .1
+count-named-requires : tie.Need-count-named-requires
+count-named-requires c κs = fitted-lengths (asked c) (itsRow c) (fit c) .1
 
 returns-2 : tie.Need-returns-2
 returns-2 c =
     let past = c .before .before in
-    first-unnamed (asked past) (itsRow past) _ (fit past) (sym (c .before .count-few .ensures (omega arith)) ∙ c .if2 .taken)
+    first-unnamed (asked past) (itsRow past) _ (fit past) (sym (c .before .count-named .ensures) ∙ c .if2 .taken)
 
 first-marked-requires : tie.Need-first-marked-requires
 first-marked-requires c κs = search needs
@@ -51,7 +51,7 @@ returns-3 c = search needs
 list-opponents-requires : tie.Need-list-opponents-requires
 list-opponents-requires c κs =
     let past = c .before .before .before .before in
-    let count = c .before .before .before .count-few .ensures (omega arith) in
+    let count = c .before .before .before .count-named .ensures in
     (fitted-lengths (asked past) (itsRow past) (fit past) .1 .0, length-replicate {A = ℕ} 32 0, omega (arith, count))
 
 first-among-requires : tie.Need-first-among-requires
@@ -71,7 +71,7 @@ first-opposer-spec =
     (tie.spec
     fits-requires
     returns
-    count-few-requires
+    count-named-requires
     returns-2
     first-marked-requires
     returns-3
