@@ -132,7 +132,7 @@ fn read_by_pairs(
     rule_read(row, classes, clients, o, kind)
 }
 
-// The same by pairs.
+// What such a login gets by pairs.
 pub fn decide_by_pairs(
     row: &[u8],
     classes: &[u16],
@@ -150,7 +150,8 @@ pub fn decide_by_pairs(
     if !register_pairs::pairs_fit(firsts, seconds) {
         return Ruling::BadPairs;
     }
-    if row.len() <= folder.0 as usize {
+    let folders = row.len();
+    if folders <= folder.0 as usize {
         return Ruling::UnknownFolder;
     }
     let o = row_labels::label_of(classes, clients, folder);

@@ -1,82 +1,60 @@
+-- `decide_by_classes` meets its contract: rows 1 and 6 of the table, then the wall's, by classes.
 use Rattle.row.proofs.Cut.{ruledPast-rival, ruledPast-none, says-unfit, says-unknown, says-wall, wall-past}
 use Rattle.row_labels.proofs.Fitting.{lists-are}
 use borrow.Author.Tests.{not-true, not-false}
 use mathlib.Core.Path.{refl, sym, _∙_}
-use native.Mathlib.Omega.{arith}
 use borrow.Author.Needs.{needs}
 use Rattle.row.proofs.decide_by_classes.Statement.{statement}
 use Rattle.row.proofs.decide_by_classes.Tie as tie
-use Rattle.row.proofs.decide_by_classes.Reads as reads
-use Rattle.row.proofs.decide_by_classes.Lts as lts
-use Rattle.kinds.proofs.writes.Reads as writes-reads
-use Rattle.row.proofs.rule_read.Reads as rule-read-reads
-use Rattle.row.proofs.rule_write.Reads as rule-write-reads
-use Rattle.row.proofs.walks.find.Reads as find-reads
-use Rattle.row.proofs.walks.folder_no.Reads as folder-no-reads
-use Rattle.row_labels.proofs.label_of.Reads as label-of-reads
-use Rattle.row_labels.proofs.lists_fit.Reads as lists-fit-reads
 
--- src/lib.rt:77:9
 lists-fit-requires : tie.Need-lists-fit-requires
 lists-fit-requires c κs = search needs
 
--- src/lib.rt:78:9
 returns : tie.Need-returns
 returns c =
     λ firsts seconds. says-unfit _ _ _ _ (sym (c .before .lists-fit .ensures) ∙ not-true _ (c .if1 .taken))
 
--- src/lib.rt:80:21
 cast-if2 : tie.Need-cast-if2
 cast-if2 c = search needs
 
--- src/lib.rt:81:9
 returns-2 : tie.Need-returns-2
 returns-2 c =
     let listed = sym (c .before .before .before .lists-fit .ensures) ∙ not-false _ (c .before .before .if1 .left) in
     λ firsts seconds. says-unknown _ _ _ _ listed refl (c .if2 .taken)
 
--- src/lib.rt:83:9
 label-of-requires : tie.Need-label-of-requires
 label-of-requires c κs = search needs
 
--- src/lib.rt:84:9
 find-requires : tie.Need-find-requires
 find-requires c κs =
     lists-are _ _ (sym (c .before .before .before .before .lists-fit .ensures) ∙ not-false _ (c .before .before .before .if1 .left)) .0
 
--- src/lib.rt:86:30
 folder-no-requires : tie.Need-folder-no-requires
 folder-no-requires c κs =
     search (needs, lists-are _ _ (sym (c .before .before .before .before .before .before .lists-fit .ensures) ∙ not-false _ (c .before .before .before .before .before .if1 .left)) .1)
 
--- src/lib.rt:86:9
 returns-3 : tie.Need-returns-3
 returns-3 c =
     let listed = sym (c .before .before .before .before .before .before .before .lists-fit .ensures) ∙ not-false _ (c .before .before .before .before .before .before .if1 .left) in
     λ firsts seconds. rw (c .folder-no .ensures) (says-wall _ _ _ _ listed refl (c .before .before .before .before .if2 .left) (ruledPast-rival _ _ _ _ _ (c .before .if3 .taken) ∙ wall-past _ _ (lists-are _ _ listed .0) refl _ _ _ (c .before .before .before .label-of .ensures) (c .before .before .find .ensures)))
 
--- src/lib.rt:88:8
 writes-requires : tie.Need-writes-requires
 writes-requires c κs = search needs
 
--- src/lib.rt:89:9
 rule-write-requires : tie.Need-rule-write-requires
 rule-write-requires c κs =
     let l = lists-are _ _ (sym (c .before .before .before .before .before .before .before .before .lists-fit .ensures) ∙ not-false _ (c .before .before .before .before .before .before .before .if1 .left)) in (l .0, l .1)
 
--- src/lib.rt:89:9
 returns-4 : tie.Need-returns-4
 returns-4 c =
     let listed = sym (c .before .before .before .before .before .before .before .before .before .lists-fit .ensures) ∙ not-false _ (c .before .before .before .before .before .before .before .before .if1 .left) in
     let past = c .rule-write .ensures _ (sym (c .before .before .writes .ensures) ∙ c .before .if4 .taken) ∙ ruledPast-none _ _ _ _ _ (c .before .before .before .if3 .left) in
     λ firsts seconds. says-wall _ _ _ _ listed refl (c .before .before .before .before .before .before .if2 .left) (past ∙ wall-past _ _ (lists-are _ _ listed .0) refl _ _ _ (c .before .before .before .before .before .label-of .ensures) (c .before .before .before .before .find .ensures))
 
--- src/lib.rt:91:5
 rule-read-requires : tie.Need-rule-read-requires
 rule-read-requires c κs =
     let l = lists-are _ _ (sym (c .before .before .before .before .before .before .before .before .lists-fit .ensures) ∙ not-false _ (c .before .before .before .before .before .before .before .if1 .left)) in (l .0, l .1, sym (c .before .writes .ensures) ∙ c .if4 .left)
 
--- src/lib.rt:68:1
 returns-5 : tie.Need-returns-5
 returns-5 c =
     let listed = sym (c .before .before .before .before .before .before .before .before .before .lists-fit .ensures) ∙ not-false _ (c .before .before .before .before .before .before .before .before .if1 .left) in

@@ -1,3 +1,4 @@
+-- `rule_read` meets its contract: row 22, by what its search finds, for a careful read alone.
 use Rattle.row.specs.Cut.{ruledPast}
 use Rattle.vocabulary.specs.Answer.{judge}
 use lib.ListN.{length}
@@ -6,32 +7,23 @@ use native.Mathlib.Omega.{arith}
 use borrow.Author.Needs.{needs}
 use Rattle.row.proofs.rule_read.Statement.{statement}
 use Rattle.row.proofs.rule_read.Tie as tie
-use Rattle.row.proofs.rule_read.Reads as reads
-use Rattle.row.proofs.rule_read.Lts as lts
-use Rattle.row.proofs.walks.find.Reads as find-reads
-use Rattle.row.proofs.walks.folder_no.Reads as folder-no-reads
 
--- src/lib.rt:59:13
 find-requires : tie.Need-find-requires
 find-requires c κs = search needs
 
--- src/lib.rt:61:36
 folder-no-requires : tie.Need-folder-no-requires
 folder-no-requires c κs = search needs
 
--- src/lib.rt:61:13
 returns : tie.Need-returns
 unfolding ruledPast judge
 returns c =
     rw (c .folder-no .ensures, c .before .before .find .ensures, le-leb (length (c .before .before .before .before .before .before .before .args .row .now)) (length (c .before .before .before .before .before .before .before .args .row .now)) (omega arith), c .before .before .before .before .before .before .before .pre .2, eq-eqb _ _ (c .before .before .before .if1 .taken), lt-leb _ _ (rw (c .before .before .find .ensures) at (c .before .if2 .taken)))
 
--- src/lib.rt:54:1
 returns-2 : tie.Need-returns-2
 unfolding ruledPast judge
 returns-2 c =
     rw (le-leb (length (c .before .before .before .before .before .before .args .row .now)) (length (c .before .before .before .before .before .before .args .row .now)) (omega arith), c .before .before .before .before .before .before .pre .2, eq-eqb _ _ (c .before .before .if1 .taken), le-leb _ _ (rw (c .before .find .ensures) at (c .if2 .left)))
 
--- src/lib.rt:54:1
 returns-3 : tie.Need-returns-3
 unfolding ruledPast judge
 returns-3 c =

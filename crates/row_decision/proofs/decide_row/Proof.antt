@@ -1,63 +1,46 @@
+-- `decide_row` meets its contract: the row's length and rows 8 and 9 of the table speak before the row's crate, in either mode.
 use Rattle.row_decision.proofs.Rows.{judged-long, judged-large, judged-end, judged-row}
 use mathlib.Core.Bool.{true, false}
 use mathlib.Core.Path.{_≡_, _∙_}
-use native.Mathlib.Omega.{arith}
 use borrow.Author.Needs.{needs}
 use Rattle.row_decision.proofs.decide_row.Statement.{statement}
 use Rattle.row_decision.proofs.decide_row.Tie as tie
-use Rattle.row_decision.proofs.decide_row.Reads as reads
-use Rattle.row_decision.proofs.decide_row.Lts as lts
-use Rattle.cells.proofs.first_above.Reads as first-above-reads
-use Rattle.row.proofs.decide_by_classes.Reads as decide-by-classes-reads
-use Rattle.row.proofs.decide_by_pairs.Reads as decide-by-pairs-reads
-use Rattle.row_decision.proofs.by_ruling.Reads as by-ruling-reads
 
--- src/lib.rt:55:9
 returns : tie.Need-returns
 returns c =
     judged-long _ _ _ _ _ (c .if1 .taken)
 
--- src/lib.rt:57:9
 first-above-requires : tie.Need-first-above-requires
 first-above-requires c κs = search needs
 
--- src/lib.rt:59:61
 cast-t14 : tie.Need-cast-t14
 cast-t14 c = search needs
 
--- src/lib.rt:59:9
 returns-2 : tie.Need-returns-2
 returns-2 c =
     judged-large _ _ _ _ _ (c .before .before .if1 .left) _ (c .before .first-above .ensures) (c .if2 .taken)
 
--- src/lib.rt:62:9
 returns-3 : tie.Need-returns-3
 returns-3 c =
     judged-end _ _ _ _ _ (c .before .before .before .before .if1 .left) (c .before .before .before .first-above .ensures) (c .before .before .if2 .left) (c .if3 .taken)
 
--- src/lib.rt:65:26
 decide-by-pairs-requires : tie.Need-decide-by-pairs-requires
 decide-by-pairs-requires c κs = search needs
 
--- src/lib.rt:65:9
 by-ruling-requires : tie.Need-by-ruling-requires
 by-ruling-requires c κs = search needs
 
--- src/lib.rt:65:9
 returns-4 : tie.Need-returns-4
 returns-4 c =
     let mode : c .before .before .before .before .before .before .before .before .before .before .before .before .before .args .by-pairs ≡ true = c .before .before .if4 .taken in
     c .by-ruling .ensures ∙ judged-row _ _ _ _ _ (c .before .before .before .before .before .before .before .if1 .left) (c .before .before .before .before .before .before .first-above .ensures) (c .before .before .before .before .before .if2 .left) (c .before .before .before .if3 .left) (rw mode (c .before .decide-by-pairs .ensures))
 
--- src/lib.rt:75:15
 decide-by-classes-requires : tie.Need-decide-by-classes-requires
 decide-by-classes-requires c κs = search needs
 
--- src/lib.rt:75:5
 by-ruling-requires-2 : tie.Need-by-ruling-requires-2
 by-ruling-requires-2 c κs = search needs
 
--- src/lib.rt:41:1
 returns-5 : tie.Need-returns-5
 returns-5 c =
     let mode : c .before .before .before .before .before .before .before .before .before .before .before .before .before .args .by-pairs ≡ false = c .before .before .if4 .left in
