@@ -27,7 +27,7 @@ use Rattle.register_pairs.specs.Pair.{pairsFit}
 use Rattle.row_marks.specs.Opposed.{opposers, firstOpposer}
 use Rattle.row_labels.proofs.Fitting.{fits-are}
 use Rattle.row.specs.Row.{fitChecks, rowAnswer, ruled, lostOn}
-use Rattle.row.specs.Cut.{allOf, firstOf, firstRival, ruledPast}
+use Rattle.row.specs.Cut.{allOf, firstOf, ruledPast}
 use Rattle.row.proofs.Fitting.{lostOn-fits}
 
 -- A kind that enters a write right is not the careful read.
@@ -48,6 +48,13 @@ module _ (row classes clients : List ℕ) (l : Label) (kind : ℕ) {n : ℕ} whe
 -- Whether the lists of pairs fit is asked of them alone.
 abbrev pub alone : Register → Register
 alone r = registerBy 0 [] [] true (r .firsts) (r .seconds)
+
+-- The first rival, or the row's length: by pairs of the client asked for, by classes of the label asked for.
+abbrev pub firstRival : Register → List ℕ → Label → ℕ
+firstRival r row o =
+    cond (r .byPairs)
+    (firstOpposer (registerBy 0 [] (r .clients) true (r .firsts) (r .seconds)) row (o .client .0))
+    (firstOf Rival row (r .classes) (r .clients) o)
 
 -- Where lists and pairs fit, the first rival is that of the rules, in either mode.
 module _ (r : Register) (row : List ℕ) (beside : Alongside row (r .classes) (r .clients)) (o : ℕ) (l : Label) (asked : l ≡ labelAt (r .classes) (r .clients) o) where

@@ -1,6 +1,6 @@
 -- Internal: the rules cut as the code is cut, on the places of a row. No rule of document 01 stands here.
 use Prim.Native.Nat.{ℕ}
-use mathlib.Core.Bool.{Bool, true, cond, not, _&&_}
+use mathlib.Core.Bool.{Bool, not, _&&_}
 use mathlib.Core.List.{List, [], _∷_}
 use lib.Dec.{eqb, leb}
 use lib.ListN.{length, getD}
@@ -9,10 +9,8 @@ use Rattle.vocabulary.specs.Those.{those}
 use Rattle.ids.specs.declared.Label.{Label}
 use Rattle.policy.specs.Rules.{cell, writes}
 use Rattle.row_labels.specs.Fitting.{labelAt}
-use Rattle.register.specs.Register.{Register, registerBy}
-use Rattle.row_marks.specs.Opposed.{firstOpposer}
 use Rattle.cell_rules.specs.declared.Sort.{Sort}
-use Rattle.cell_rules.specs.declared.Sort.the-variants.{Rival, Foreign, AtStake}
+use Rattle.cell_rules.specs.declared.Sort.the-variants.{Foreign, AtStake}
 use Rattle.cell_rules.specs.Cut.{ofSort}
 
 -- The folders of a sort.
@@ -26,18 +24,11 @@ allOf sort row classes clients o = those (ofSortAt sort row classes clients o) (
 abbrev pub firstOf : Sort → List ℕ → List ℕ → List ℕ → Label → ℕ
 firstOf sort row classes clients o = getD (allOf sort row classes clients o) 0 (length row)
 
--- The first rival, or the row's length: by pairs of the client asked for, by classes of the label asked for.
-abbrev pub firstRival : Register → List ℕ → Label → ℕ
-firstRival r row o =
-    cond (r .byPairs)
-    (firstOpposer (registerBy 0 [] (r .clients) true (r .firsts) (r .seconds)) row (o .client .0))
-    (firstOf Rival row (r .classes) (r .clients) o)
-
 -- What a search found is a folder of the row.
 abbrev pub within : List ℕ → ℕ → Bool
 within row n = not (leb (length row) n)
 
--- The wall's answer by what is found: the first rival that is given, and the first folder of each other sort.
+-- The wall's answer by what is found: the first rival, which is given, or the row's length for none, and the first folder of each other sort.
 unfoldable pub ruledPast : ℕ → List ℕ → List ℕ → List ℕ → Label → ℕ → Answer
 ruledPast rival row classes clients o kind =
     judge (check (within row rival) 20 (rival ∷ [])

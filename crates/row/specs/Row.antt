@@ -1,7 +1,7 @@
 -- A request on a row alone: what is answered and what is lost (document 01, 'The four kinds of request' and 'Where each refusal is checked'; document
 -- 02, C-12). A row may be given with any lists and any folder: rows 1, 11 and 6 of the table judge them, 11 by the sizes of the lists of pairs alone.
 -- Rows 7 and 8 are not judged here: a kind other than 1 to 4 asks for nothing, and a cell is read by its two rights. An empty row has no folder, so 6
--- speaks, unless 11 does.
+-- speaks, unless 1 or 11 does.
 use Prim.Native.Nat.{ℕ}
 use mathlib.Core.Bool.{cond, not, _&&_}
 use mathlib.Core.List.{List, [], _∷_}

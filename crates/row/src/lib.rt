@@ -1,5 +1,5 @@
 // What the wall says of a request, on the row of the login that asks, and whether a grant takes write rights back (document 01, 'The four kinds of
-// request'; document 02, C-12). Rows, lists and folders of any lengths and numbers may be given; whether they fit is asked once, before any walk.
+// request'; document 02, C-12). Rows, lists and folders of any lengths and numbers may be given; whether they fit is asked before any walk.
 // Kind and cells are judged by the caller.
 use cell_rules::Sort;
 use ids::FolderNo;
@@ -50,7 +50,7 @@ fn rule_write(row: &[u8], classes: &[u16], clients: &[u16], o: Label) -> Ruling
     Ruling::Granted
 }
 
-// Row 22 of the table, for a kind that enters none, where there is no rival.
+// Row 22 of the table, for a kind that enters no write right, where there is no rival.
 fn rule_read(row: &[u8], classes: &[u16], clients: &[u16], o: Label, kind: u16) -> Ruling
     requires { ⌜ Alongside (now row) (now classes) (now clients) × (length (now row) ≤ 512) × (writes kind ≡ false) ⌝ }
     ensures { λ r. ⌜ rulingAnswer r ≡ ruledPast (length (now (row .entry))) (now (row .entry)) (now (classes .entry)) (now (clients .entry)) o kind ⌝ }
@@ -132,7 +132,7 @@ fn read_by_pairs(
     rule_read(row, classes, clients, o, kind)
 }
 
-// What such a login gets by pairs.
+// What a login whose row this is gets for a request of this folder and kind, by pairs.
 pub fn decide_by_pairs(
     row: &[u8],
     classes: &[u16],

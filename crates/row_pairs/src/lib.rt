@@ -1,5 +1,5 @@
 // The search for a rival by pairs, on a row alone (document 02, C-12), quickest where the client asked for has few opponents. Lists of any lengths
-// may be given; whether they fit is asked once, before any walk.
+// may be given; whether they fit is asked before any walk.
 mod groups; // the folders of listed clients, sought by four clients at a time
 mod listing; // the opponents, counted and listed
 
