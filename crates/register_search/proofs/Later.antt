@@ -9,8 +9,8 @@ use lib.Dec.{eqb}
 use lib.ListN.{getD}
 use borrow.Author.Tests.{eq-eqb, ne-eqb, eqb-true, lt-ltb}
 use Rattle.vocabulary.specs.Those.{those, some}
-use Rattle.vocabulary.proofs.Those.{those-empty, those-never, some-none}
-use Rattle.register.specs.Register.{Register, classOf, clientOf, differs, earlier}
+use Rattle.vocabulary.proofs.Those.{those-empty, those-never, some-none, first-end}
+use Rattle.register.specs.Register.{Register, folders, classOf, clientOf, differs, earlier, later}
 use Rattle.register_search.specs.Chains.{pastLast, ofClient}
 use Rattle.register_search.specs.Marks.{Clean, Telling, clash}
 use Rattle.register_search.proofs.Chains.{pastLast-holds, pastLast-none}
@@ -79,6 +79,18 @@ module _ (r : Register) (i : ℕ) (clean : Clean r i) where
   told-step (suc g) t h =
       let one-less : suc g - 1 ≡ g = omega arith in
       rw (lt-ltb 0 (suc g) (omega arith), one-less) (decides g (omega arith) (rw one-less at (t .one (omega arith) h)))
+
+-- The first folder differs from none, and so one folder alone.
+pub clean-one : (r : Register) → Clean r 1
+unfolding earlier those
+clean-one r = refl
+
+pub later-one : (r : Register) → folders r ≤ 1 → folders r ≡ getD (later r) 0 (folders r)
+unfolding later
+later-one r h = sym (first-end p (folders r) (folders r) (those-never p (folders r) (λ f below. those-empty p 1 (clean-one r) f (omega arith))) (omega arith) (omega arith))
+  where
+    p : ℕ → Bool
+    p f = some (earlier r f)
 
 -- The last folder of a client tells of it.
 pub last-telling : (clients : List ℕ) (i : ℕ) → Telling clients i (pastLast (ofClient clients (getD clients i 0)) i)

@@ -1,18 +1,13 @@
 -- Laws of the marks by which refusal 3 is sought among few folders.
 use Prim.Native.Nat.{ℕ, _+_, _-_, _<_}
 use mathlib.Core.Path.{_≡_, refl, _∙_}
-use mathlib.Core.Bool.{Bool, true, false, cond, _||_}
 use mathlib.Core.List.{List}
-use mathlib.Core.Logic.{_⊎_, ⊎-elim}
 use native.Mathlib.Nat.{not-suc-le-zero}
 use native.Mathlib.Omega.{arith}
 use native.Mathlib.Decide.{ℕ-discrete}
-use lib.Dec.{eqb}
 use lib.ListN.{getD, set, replicate, length-replicate, getD-replicate, length-set}
 use lib.Seq.{getD-set-same, getD-set-other}
-use borrow.Author.Tests.{eqb-true}
-use Rattle.vocabulary.proofs.Bools.{either}
-use Rattle.register_search.specs.Marks.{Marked, Telling, markOf, tells}
+use Rattle.register_search.specs.Marks.{Alone, Marked, Telling, markOf}
 
 -- No folder has left a mark yet.
 pub marked-none : (clients : List ℕ) → Marked clients (replicate 128 0) 0
@@ -48,21 +43,14 @@ marked-more clients marks n t =
           | no other ↦ rw (old (markOf (getD clients g 0)) d) (t .left g (omega arith))
         ]
 
--- What a folder's mark tells is to be believed.
-pub marked-telling : (clients marks : List ℕ) (f : ℕ) → Marked clients marks f → Telling clients f (tells clients (getD marks (markOf (getD clients f 0)) 0) f)
-marked-telling clients marks f t = at (eqb mark 0 || eqb (getD clients (mark - 1) 0) (getD clients f 0)) refl
-  where
-    mark : ℕ
-    mark = getD marks (markOf (getD clients f 0)) 0
+-- A folder without a mark in its client's place is alone of its client.
+pub marked-alone : (clients marks : List ℕ) (f : ℕ) → Marked clients marks f → getD marks (markOf (getD clients f 0)) 0 ≡ 0 → Alone clients f
+marked-alone clients marks f t z g h same = omega (arith, z, rw same at (t .left g h))
 
-    at : (b : Bool) → (eqb mark 0 || eqb (getD clients (mark - 1) 0) (getD clients f 0)) ≡ b → Telling clients f (cond b mark (f + 1))
-    at true e =
-        record {
-          none = λ z g h same. omega (arith, z, rw same at (t .left g h));
-          one = λ some h. ⊎-elim (λ z. absurd (omega (arith, some, eqb-true mark 0 z))) (λ same. eqb-true (getD clients (mark - 1) 0) (getD clients f 0) same) (either (eqb mark 0) (eqb (getD clients (mark - 1) 0) (getD clients f 0)) e);
-        }
-    at false e =
-        record {
-          none = λ z g h same. omega (arith, z);
-          one = λ some h. absurd (omega (arith, h));
-        }
+-- One that a folder of its client left is to be believed.
+pub same-telling : (clients : List ℕ) (f mark : ℕ) → 0 < mark → getD clients (mark - 1) 0 ≡ getD clients f 0 → Telling clients f mark
+same-telling clients f mark some same =
+    record {
+      none = λ z g h e. omega (arith, z);
+      one = λ _ _. same;
+    }

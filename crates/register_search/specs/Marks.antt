@@ -1,8 +1,8 @@
 -- Internal: how refusal 3 is sought in one pass, and how by marks where there are few folders. A mark is one more than a folder's number, or 0.
 -- No rule of document 01 stands here.
-use Prim.Native.Nat.{ℕ, _+_, _-_, _≤_, _<_, _%_}
+use Prim.Native.Nat.{ℕ, _-_, _≤_, _<_, _%_}
 use mathlib.Core.Path.{_≡_}
-use mathlib.Core.Bool.{Bool, cond, not, _&&_, _||_}
+use mathlib.Core.Bool.{Bool, not, _&&_}
 use mathlib.Core.List.{List, []}
 use lib.ListN.{length, getD}
 use lib.Dec.{eqb, ltb}
@@ -17,10 +17,14 @@ Clean r n = those (λ f. some (earlier r f)) n ≡ []
 abbrev pub clash : List ℕ → ℕ → ℕ → Bool
 clash classes f past = ltb 0 past && not (eqb (getD classes (past - 1) 0) (getD classes f 0))
 
+-- No folder before f is of its client.
+abbrev pub Alone : List ℕ → ℕ → Type 0
+Alone clients f = (g : ℕ) → g < f → getD clients g 0 ≡ getD clients f 0 → ⊥
+
 -- A mark to be believed of folder f: if it is 0, no earlier folder is of f's client; if it is 1 to f, the folder before it is one. A larger one
 -- tells nothing.
 pub record Telling (clients : List ℕ) (f mark : ℕ) : Type 0 where
-  pub none : mark ≡ 0 → (g : ℕ) → g < f → getD clients g 0 ≡ getD clients f 0 → ⊥
+  pub none : mark ≡ 0 → Alone clients f
   pub one : 0 < mark → mark ≤ f → getD clients (mark - 1) 0 ≡ getD clients f 0
 
 -- A client's place among the marks.
@@ -32,7 +36,3 @@ pub record Marked (clients marks : List ℕ) (n : ℕ) : Type 0 where
   pub places : length marks ≡ 128
   pub left : (g : ℕ) → g < n → 0 < getD marks (markOf (getD clients g 0)) 0
   pub within : (s : ℕ) → s < 128 → getD marks s 0 ≤ n
-
--- What a mark tells of folder f: itself, if it is 0 or left by a folder of f's client; else f + 1, which tells nothing.
-abbrev pub tells : List ℕ → ℕ → ℕ → ℕ
-tells clients mark f = cond (eqb mark 0 || eqb (getD clients (mark - 1) 0) (getD clients f 0)) mark (f + 1)

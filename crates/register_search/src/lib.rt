@@ -29,11 +29,15 @@ fn lists_fit(classes: &[u16], clients: &[u16]) -> bool
     (classes.len() <= 512) & (classes.len() == clients.len())
 }
 
-// The first folder that differs in class alone from an earlier one, or F. With few folders, marks are quicker than emptying the table.
+// The first folder that differs in class alone from an earlier one, or F. One folder has no earlier one; with few, marks are quicker than emptying
+// the table.
 fn first_later(classes: &[u16], clients: &[u16]) -> usize
     requires { ⌜ (length (now classes) ≤ 512) × (length (now classes) ≡ length (now clients)) ⌝ }
     ensures { λ r. ⌜ r ≡ getD (later (registerOf 0 (now (classes .entry)) (now (clients .entry)))) 0 (length (now (classes .entry))) ⌝ }
 {
+    if classes.len() <= 1 {
+        return classes.len();
+    }
     if classes.len() <= 64 {
         return walk_few(classes, clients);
     }

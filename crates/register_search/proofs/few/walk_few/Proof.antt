@@ -1,6 +1,6 @@
 -- `walk_few` meets its contract: no folder that the loop has passed differs from an earlier one, and each has left its mark.
 use Rattle.register_search.specs.Marks.{Clean, Marked, markOf}
-use Rattle.register_search.proofs.Marks.{marked-none, marked-more, marked-telling}
+use Rattle.register_search.proofs.Marks.{marked-none, marked-more, marked-alone}
 use Rattle.register.specs.Register.{registerOf, later}
 use Rattle.vocabulary.proofs.Those.{first-end, first-found, those-none}
 use Rattle.vocabulary.specs.Those.{those}
@@ -32,25 +32,21 @@ shared-slice-read-place c = search needs
 cast-place : tie.Need-cast-place Inv-loop μ-loop
 cast-place c = search needs
 
-array-read-told-by : tie.Need-array-read-told-by Inv-loop μ-loop
-array-read-told-by c = search needs
+array-read-clashes-by : tie.Need-array-read-clashes-by Inv-loop μ-loop
+array-read-clashes-by c = search needs
 
-cast-told-by : tie.Need-cast-told-by Inv-loop μ-loop
-cast-told-by c =
+cast-clashes-by : tie.Need-cast-clashes-by Inv-loop μ-loop
+cast-clashes-by c =
     search (needs, c .before .before .loop .inv .1 .1 .within (markOf (getD (c .before .before .before .before .before .args .clients .now) (c .before .before .loop .f) 0)) (omega arith))
-
-told-by-requires : tie.Need-told-by-requires Inv-loop μ-loop
-told-by-requires c κs =
-    (omega (arith, c .before .before .before .before .before .pre, c .before .loop-test .taken), c .before .before .loop .inv .1 .1 .within _ (omega arith))
 
 clashes-by-requires : tie.Need-clashes-by-requires Inv-loop μ-loop
 clashes-by-requires c κs =
-    (c .before .before .loop-test .taken, c .before .before .before .before .before .before .pre .1, c .before .before .before .loop .inv .1 .0, rw (c .told-by .ensures) (marked-telling _ _ _ (c .before .before .before .loop .inv .1 .1)))
+    (c .before .loop-test .taken, c .before .before .before .before .before .pre .1, c .before .before .loop .inv .1 .0, c .before .before .loop .inv .1 .1 .within _ (omega arith), marked-alone _ _ _ (c .before .before .loop .inv .1 .1))
 
 returns : tie.Need-returns Inv-loop μ-loop
 unfolding later
 returns c =
-    sym (first-found _ _ _ _ (c .before .before .before .before .before .loop .inv .1 .0) (sym (c .before .clashes-by .ensures) ∙ c .if1 .taken) (c .before .before .before .before .loop-test .taken))
+    sym (first-found _ _ _ _ (c .before .before .before .before .loop .inv .1 .0) (sym (c .before .clashes-by .ensures) ∙ c .if1 .taken) (c .before .before .before .loop-test .taken))
 
 add-marks : tie.Need-add-marks Inv-loop μ-loop
 add-marks c = search needs
@@ -69,7 +65,7 @@ loop-less c = search needs
 
 loop-again : tie.Need-loop-again Inv-loop μ-loop
 loop-again c =
-    (omega arith, (those-none _ _ (c .before .before .before .before .before .loop .inv .1 .0) (sym (c .before .clashes-by .ensures) ∙ c .if1 .left), marked-more _ _ _ (c .before .before .before .before .before .loop .inv .1 .1)))
+    (omega arith, (those-none _ _ (c .before .before .before .before .loop .inv .1 .0) (sym (c .before .clashes-by .ensures) ∙ c .if1 .left), marked-more _ _ _ (c .before .before .before .before .loop .inv .1 .1)))
 
 returns-2 : tie.Need-returns-2 Inv-loop μ-loop
 unfolding later
@@ -86,9 +82,8 @@ walk-few-spec =
     mul-place
     shared-slice-read-place
     cast-place
-    array-read-told-by
-    cast-told-by
-    told-by-requires
+    array-read-clashes-by
+    cast-clashes-by
     clashes-by-requires
     returns
     add-marks
