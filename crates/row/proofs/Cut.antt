@@ -8,7 +8,7 @@ use mathlib.Core.List.{List, [], _∷_}
 use native.Mathlib.Omega.{arith}
 use native.Mathlib.Decide.{ℕ-discrete, decLt}
 use lib.ListN.{length, getD}
-use lib.Dec.{eqb}
+use lib.Dec.{eqb, leb}
 use borrow.Author.Tests.{eqb-true, eq-eqb, ne-eqb, le-leb, lt-leb, not-false}
 use Rattle.vocabulary.specs.Answer.{Answer, answer, judge}
 use Rattle.vocabulary.specs.Those.{those, some, smallest}
@@ -35,6 +35,9 @@ pub writes-other : (kind : ℕ) → writes kind ≡ true → eqb kind 2 ≡ fals
 writes-other kind e =
     ⊎-elim (λ a. rw (eqb-true kind 3 a)) (λ a. rw (eqb-true kind 4 a)) (either (eqb kind 3) (eqb kind 4) e)
 
+pub leb-self : (n : ℕ) → leb n n ≡ true
+leb-self n = le-leb n n (omega arith)
+
 -- Row 20 by what is found: the first rival, or none.
 module _ (row classes clients : List ℕ) (l : Label) (kind : ℕ) {n : ℕ} where
   pub ruledPast-rival : n < length row → answer 20 (n ∷ []) ≡ ruledPast n row classes clients l kind
@@ -43,7 +46,7 @@ module _ (row classes clients : List ℕ) (l : Label) (kind : ℕ) {n : ℕ} whe
 
   pub ruledPast-none : length row ≤ n → ruledPast (length row) row classes clients l kind ≡ ruledPast n row classes clients l kind
   unfolding ruledPast judge
-  ruledPast-none h = rw (le-leb (length row) n h, le-leb (length row) (length row) (omega arith))
+  ruledPast-none h = rw (le-leb (length row) n h, leb-self (length row))
 
 -- Whether the lists of pairs fit is asked of them alone.
 abbrev pub alone : Register → Register

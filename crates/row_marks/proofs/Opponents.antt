@@ -29,8 +29,8 @@ filled f l n room h i g =
       | no d ↦ getD-set-other l n i (f n) 0 d ∙ h i (omega arith)
     ]
 
--- Of a pair that names c, the other client is the one that it names beside c.
-named-between : (a b c x : ℕ) → (namesClient a b c && eqb (otherClient a b c) x) ≡ ((eqb a x && eqb b c) || (eqb a c && eqb b x))
+-- Of a pair that names c, the other client is the one that it names beside c; one that does not names nobody beside it.
+pub named-between : (a b c x : ℕ) → (namesClient a b c && eqb (otherClient a b c) x) ≡ ((eqb a x && eqb b c) || (eqb a c && eqb b x))
 named-between a b c x = at (eqb a c) (eqb b c) refl refl
   where
     at : (s t : Bool) → eqb a c ≡ s → eqb b c ≡ t → (namesClient a b c && eqb (otherClient a b c) x) ≡ ((eqb a x && eqb b c) || (eqb a c && eqb b x))
@@ -63,17 +63,17 @@ listed-more firsts seconds c others wanted n room l =
       rest = λ i h. getD-set-other wanted n i _ 0 (λ e. omega arith) ∙ l .rest i (omega arith);
     }
 
+pub boolByte-most : (b : Bool) → boolByte b ≤ 1
+boolByte-most true = omega arith
+boolByte-most false = omega arith
+
 -- What is listed beside the clients is 0 or 1.
 pub listed-flags : (firsts seconds : List ℕ) (c : ℕ) (others wanted : List ℕ) (n : ℕ) → Listed firsts seconds c others wanted n → Flags wanted
 listed-flags firsts seconds c others wanted n l i =
     elim (decLt i n) [
-      | yes h ↦ rw (l .flags i h) (small (namesClient (getD firsts i 0) (getD seconds i 0) c))
+      | yes h ↦ rw (l .flags i h) (boolByte-most (namesClient (getD firsts i 0) (getD seconds i 0) c))
       | no h ↦ omega (arith, l .rest i (omega arith))
     ]
-  where
-    small : (t : Bool) → boolByte t ≤ 1
-    small true = omega arith
-    small false = omega arith
 
 -- It is 1 where the pair names the client.
 is-one : (t : Bool) → eqb (boolByte t) 1 ≡ t

@@ -1,7 +1,7 @@
 -- A client is in conflict by pairs with another where it is among the other's opponents.
 use Prim.Native.Nat.{ℕ, zero, suc, _+_, _≤_, _<_}
 use mathlib.Core.Path.{_≡_, refl, ap, sym, _∙_}
-use mathlib.Core.Bool.{Bool, true, false, cond, _&&_, _||_, or-false, or-self, and-true, and-false}
+use mathlib.Core.Bool.{Bool, true, false, cond, _&&_, _||_, or-false}
 use mathlib.Core.List.{List, [], _∷_, map, map-append}
 use mathlib.Core.Logic.{⊎-elim}
 use native.Mathlib.Nat.{not-suc-le-zero}
@@ -12,27 +12,16 @@ use lib.Dec.{eqb}
 use lib.ListN.{length, take, set, length-append, length-map}
 use lib.Seq.{take-suc-set, length-take-le}
 use mir.Val.{boolByte}
-use borrow.Author.Tests.{eqb-true, ne-eqb}
+use borrow.Author.Tests.{ne-eqb}
 use Rattle.vocabulary.specs.Those.{those, some, member}
 use Rattle.vocabulary.proofs.Those.{those-agree, those-suc, those-skip, those-take, some-those-suc, member-append, below-suc}
 use Rattle.register.specs.Register.{Register, pairs, firstAt, secondAt}
 use Rattle.policy.specs.Conflict.{pairNames, paired}
+use Rattle.row_marks.proofs.Opponents.{named-between}
 use Rattle.row_pairs.specs.Opponents.{names, named, otherOf, opponents}
 
 eqb-turn : (k l : ℕ) → eqb k l ≡ eqb l k
 eqb-turn k l = elim (ℕ-discrete k l) [ yes e ↦ rw e | no d ↦ ne-eqb k l d ∙ sym (ne-eqb l k (λ e. d (sym e))) ]
-
--- Of a pair that names c, the other client is the one that it names beside c; one that does not names nobody beside it.
-pair-other : (a b x c : ℕ) → ((eqb a x && eqb b c) || (eqb a c && eqb b x)) ≡ ((eqb a c || eqb b c) && eqb x (cond (eqb a c) b a))
-pair-other a b x c = at (eqb a c) (eqb b c) refl refl
-  where
-    at :
-        (s t : Bool) → eqb a c ≡ s → eqb b c ≡ t →
-        ((eqb a x && eqb b c) || (eqb a c && eqb b x)) ≡ ((eqb a c || eqb b c) && eqb x (cond (eqb a c) b a))
-    at true true e f = rw (eqb-turn x, e, f, and-true, eqb-true a c e, eqb-true b c f, or-self)
-    at true false e f = rw (eqb-turn x, e, f, and-false)
-    at false true e f = rw (eqb-turn x, e, f, and-true, or-false)
-    at false false e f = rw (e, f, and-false)
 
 -- What a search found, each find with what it stands for: the list names x where a find stands for x.
 member-map : (g : ℕ → ℕ) (q : ℕ → Bool) (x n : ℕ) → member x (map g (those q n)) ≡ some (those (λ i. q i && eqb x (g i)) n)
@@ -49,7 +38,7 @@ member-map g q x (suc n) =
 pub opponents-paired : (r : Register) (x c : ℕ) → paired r x c ≡ member x (opponents (r .firsts) (r .seconds) c (pairs r))
 unfolding paired opponents
 opponents-paired r x c =
-    ap some (those-agree (pairNames r x c) _ (pairs r) (λ i h. pair-other (firstAt r i) (secondAt r i) x c))
+    ap some (those-agree (pairNames r x c) _ (pairs r) (λ i h. sym (rw (eqb-turn (otherOf (r .firsts) (r .seconds) c i) x) at (named-between (firstAt r i) (secondAt r i) c x))))
     ∙ sym (member-map (otherOf (r .firsts) (r .seconds) c) (names (r .firsts) (r .seconds) c) x (pairs r))
 
 -- Where no pair names the client, it has no opponents.
@@ -68,10 +57,6 @@ length-those-suc p i = rw (those-suc, length-append) (at (p i))
     at : (b : Bool) → length (those p i) + length (cond b (i ∷ []) []) ≡ length (those p i) + boolByte b
     at true = refl
     at false = refl
-
-pub boolByte-most : (b : Bool) → boolByte b ≤ 1
-boolByte-most true = omega arith
-boolByte-most false = omega arith
 
 -- A search that passes a find has listed more by then.
 those-longer : (p : ℕ → Bool) (i n : ℕ) → i < n → p i ≡ true → length (those p i) < length (those p n)

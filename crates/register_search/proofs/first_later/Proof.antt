@@ -1,6 +1,5 @@
 -- `first_later` meets its contract: one folder, few, or many.
 use Rattle.register_search.proofs.Later.{later-one}
-use native.Mathlib.Omega.{arith}
 use borrow.Author.Needs.{needs}
 use Rattle.register_search.proofs.first_later.Statement.{statement}
 use Rattle.register_search.proofs.first_later.Tie as tie

@@ -1,10 +1,9 @@
 -- `rule_write` meets its contract: row 21, by what its search finds.
-use Rattle.row.proofs.Cut.{writes-other}
+use Rattle.row.proofs.Cut.{leb-self, writes-other}
 use Rattle.row.specs.Cut.{ruledPast}
 use Rattle.vocabulary.specs.Answer.{judge}
 use lib.ListN.{length}
 use borrow.Author.Tests.{lt-leb, le-leb}
-use native.Mathlib.Omega.{arith}
 use borrow.Author.Needs.{needs}
 use Rattle.row.proofs.rule_write.Statement.{statement}
 use Rattle.row.proofs.rule_write.Tie as tie
@@ -18,12 +17,12 @@ folder-no-requires c κs = search needs
 returns : tie.Need-returns
 unfolding ruledPast judge
 returns c =
-    λ kind w. rw (c .folder-no .ensures, c .before .before .find .ensures, le-leb (length (c .before .before .before .before .before .before .args .row .now)) (length (c .before .before .before .before .before .before .args .row .now)) (omega arith), w, lt-leb _ _ (rw (c .before .before .find .ensures) at (c .before .if1 .taken)))
+    λ kind w. rw (c .folder-no .ensures, c .before .before .find .ensures, leb-self (length (c .before .before .before .before .before .before .args .row .now)), w, lt-leb _ _ (rw (c .before .before .find .ensures) at (c .before .if1 .taken)))
 
 returns-2 : tie.Need-returns-2
 unfolding ruledPast judge
 returns-2 c =
-    λ kind w. rw (le-leb (length (c .before .before .before .before .before .args .row .now)) (length (c .before .before .before .before .before .args .row .now)) (omega arith), w, le-leb _ _ (rw (c .before .find .ensures) at (c .if1 .left)), writes-other kind w)
+    λ kind w. rw (leb-self (length (c .before .before .before .before .before .args .row .now)), w, le-leb _ _ (rw (c .before .find .ensures) at (c .if1 .left)), writes-other kind w)
 
 pub rule-write-spec : {M : Type 1} → statement M
 rule-write-spec = tie.close (tie.spec find-requires folder-no-requires returns returns-2)
