@@ -1,4 +1,4 @@
--- A search that goes three numbers at a time, or six.
+-- A search that goes three numbers at a time.
 use Prim.Native.Nat.{ℕ, _+_}
 use mathlib.Core.Path.{_≡_}
 use mathlib.Core.Bool.{Bool, false, _||_}
@@ -14,17 +14,10 @@ next : (p : ℕ → Bool) (i j : ℕ) → j ≡ i + 1 → those p i ≡ [] → p
 next p i j e none f = rw e (those-none p i none f)
 
 -- Nothing below i, and none of the next three, is nothing below i + 3.
-pub those-none-three : (p : ℕ → Bool) (i : ℕ) → those p i ≡ [] → anyOfThree p i ≡ false → those p (i + 3) ≡ []
-those-none-three p i e f =
+pub those-none-three : (p : ℕ → Bool) (i j : ℕ) → j ≡ i + 3 → those p i ≡ [] → anyOfThree p i ≡ false → those p j ≡ []
+those-none-three p i j end e f =
     let two = neither (p i || p (i + 1)) (p (i + 2)) f in
     let one = neither (p i) (p (i + 1)) (two .0) in
     let past-one = next p i (i + 1) (omega arith) e (one .0) in
     let past-two = next p (i + 1) (i + 2) (omega arith) past-one (one .1) in
-    next p (i + 2) (i + 3) (omega arith) past-two (two .1)
-
--- The same of six.
-pub those-none-six :
-    (p : ℕ → Bool) (i : ℕ) → those p i ≡ [] → anyOfThree p i ≡ false → anyOfThree p (i + 3) ≡ false → those p (i + 6) ≡ []
-those-none-six p i e low high =
-    let end : i + 6 ≡ i + 3 + 3 = omega arith in
-    rw end (those-none-three p (i + 3) (those-none-three p i e low) high)
+    next p (i + 2) j (omega arith) past-two (two .1)

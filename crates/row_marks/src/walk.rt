@@ -54,22 +54,41 @@ fn first_from(row: &[u8], clients: &[u16], bits: &[u64; 1024], start: usize) -> 
     f
 }
 
-// The first such folder, or the row's length. Six at a turn, until one is found; how far the sixes reach is asked once, not at each turn. A branch
-// for each three: with one for all six the compiler takes four indices through a vector register and back, which is slower.
+// The first such folder, or the row's length. 24 at a turn, until one is found; how far the turns reach is asked once, not at each of them. A branch
+// for each three: with one for more the compiler takes four indices at a time through a vector register and back, which is slower.
 pub(crate) fn first(row: &[u8], clients: &[u16], bits: &[u64; 1024]) -> usize
     requires { ⌜ length (now clients) ≡ length (now row) ⌝ }
     ensures { λ r. ⌜ r ≡ firstRead (now (row .entry)) (now (clients .entry)) (now (bits .entry)) ⌝ }
 {
-    let whole = row.len() - row.len() % 6;
+    let whole = row.len() - row.len() % 24;
     let mut f = 0;
     while f < whole {
+        let next = f + 24;
         if found_three(row, clients, bits, f) % 2 == 1 {
             return first_from(row, clients, bits, f);
         }
         if found_three(row, clients, bits, f + 3) % 2 == 1 {
-            return first_from(row, clients, bits, f + 3);
+            return first_from(row, clients, bits, f);
         }
-        f += 6;
+        if found_three(row, clients, bits, f + 6) % 2 == 1 {
+            return first_from(row, clients, bits, f);
+        }
+        if found_three(row, clients, bits, f + 9) % 2 == 1 {
+            return first_from(row, clients, bits, f);
+        }
+        if found_three(row, clients, bits, f + 12) % 2 == 1 {
+            return first_from(row, clients, bits, f);
+        }
+        if found_three(row, clients, bits, f + 15) % 2 == 1 {
+            return first_from(row, clients, bits, f);
+        }
+        if found_three(row, clients, bits, f + 18) % 2 == 1 {
+            return first_from(row, clients, bits, f);
+        }
+        if found_three(row, clients, bits, f + 21) % 2 == 1 {
+            return first_from(row, clients, bits, f);
+        }
+        f = next;
     }
     first_from(row, clients, bits, f)
 }
