@@ -28,15 +28,15 @@ fn found(row: &[u8], clients: &[u16], bits: &[u64; 1024], f: usize) -> u8
     read_and_marked(cell, bits_from(bits, client))
 }
 
-// Odd where one of three folders, from f on, is such a folder.
-fn found_three(row: &[u8], clients: &[u16], bits: &[u64; 1024], f: usize) -> u8
+// Whether one of three folders, from f on, is such a folder.
+fn found_three(row: &[u8], clients: &[u16], bits: &[u64; 1024], f: usize) -> bool
     requires { ⌜ (length (now clients) ≡ length (now row)) × (f + 3 ≤ length (now row)) ⌝ }
-    ensures { λ r. ⌜ eqb (r % 2) 1 ≡ anyOfThree (readMarked (now (row .entry)) (now (clients .entry)) (now (bits .entry))) f ⌝ }
+    ensures { λ r. ⌜ r ≡ anyOfThree (readMarked (now (row .entry)) (now (clients .entry)) (now (bits .entry))) f ⌝ }
 {
     let one = found(row, clients, bits, f);
     let two = found(row, clients, bits, f + 1);
     let three = found(row, clients, bits, f + 2);
-    one | two | three
+    (one | two | three) % 2 == 1
 }
 
 // The first folder that may be read and is of a marked client, or the row's length, where those below `start` are none.
@@ -54,8 +54,9 @@ fn first_from(row: &[u8], clients: &[u16], bits: &[u64; 1024], start: usize) -> 
     f
 }
 
-// The first such folder, or the row's length. 24 at a turn, until one is found; how far the turns reach is asked once, not at each of them. A branch
-// for each three: with one for more the compiler takes four indices at a time through a vector register and back, which is slower.
+// The first such folder, or the row's length. 24 at a turn, until one is found, and then one by one from where the turn began; how far the turns reach
+// is asked once, not at each of them. A branch for each three: with one for more the compiler takes four indices at a time through a vector register
+// and back, which is slower.
 pub(crate) fn first(row: &[u8], clients: &[u16], bits: &[u64; 1024]) -> usize
     requires { ⌜ length (now clients) ≡ length (now row) ⌝ }
     ensures { λ r. ⌜ r ≡ firstRead (now (row .entry)) (now (clients .entry)) (now (bits .entry)) ⌝ }
@@ -64,28 +65,15 @@ pub(crate) fn first(row: &[u8], clients: &[u16], bits: &[u64; 1024]) -> usize
     let mut f = 0;
     while f < whole {
         let next = f + 24;
-        if found_three(row, clients, bits, f) % 2 == 1 {
-            return first_from(row, clients, bits, f);
-        }
-        if found_three(row, clients, bits, f + 3) % 2 == 1 {
-            return first_from(row, clients, bits, f);
-        }
-        if found_three(row, clients, bits, f + 6) % 2 == 1 {
-            return first_from(row, clients, bits, f);
-        }
-        if found_three(row, clients, bits, f + 9) % 2 == 1 {
-            return first_from(row, clients, bits, f);
-        }
-        if found_three(row, clients, bits, f + 12) % 2 == 1 {
-            return first_from(row, clients, bits, f);
-        }
-        if found_three(row, clients, bits, f + 15) % 2 == 1 {
-            return first_from(row, clients, bits, f);
-        }
-        if found_three(row, clients, bits, f + 18) % 2 == 1 {
-            return first_from(row, clients, bits, f);
-        }
-        if found_three(row, clients, bits, f + 21) % 2 == 1 {
+        if found_three(row, clients, bits, f)
+            || found_three(row, clients, bits, f + 3)
+            || found_three(row, clients, bits, f + 6)
+            || found_three(row, clients, bits, f + 9)
+            || found_three(row, clients, bits, f + 12)
+            || found_three(row, clients, bits, f + 15)
+            || found_three(row, clients, bits, f + 18)
+            || found_three(row, clients, bits, f + 21)
+        {
             return first_from(row, clients, bits, f);
         }
         f = next;
