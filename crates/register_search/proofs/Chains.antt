@@ -12,7 +12,7 @@ use lib.ListN.{length, getD, set, replicate, length-replicate, getD-replicate, l
 use lib.Seq.{getD-set-same, getD-set-other}
 use borrow.Author.Tests.{eq-eqb, ne-eqb, eqb-true}
 use Rattle.vocabulary.proofs.Those.{below-suc}
-use Rattle.register_search.specs.Chains.{pastLast, ofClient, slotOf, inSlot, Chained}
+use Rattle.register_search.specs.Chains.{pastLast, ofClient, slotOf, inSlot, SlotsListed, Chained}
 
 pub pastLast-suc : (p : ℕ → Bool) (n : ℕ) → pastLast p (n + 1) ≡ cond (p n) (n + 1) (pastLast p n)
 unfolding pastLast
@@ -74,6 +74,22 @@ pub ofClient-inSlot : (clients : List ℕ) (c k : ℕ) → inSlot clients (slotO
 ofClient-inSlot clients c k e =
     ne-eqb (getD clients k 0) c (λ same. absurd (false≢true (sym e ∙ eq-eqb (slotOf (getD clients k 0)) (slotOf c) (ap slotOf same))))
 
+-- One slot more.
+pub slots-more : (clients slots : List ℕ) (n : ℕ) → n < 512 → SlotsListed clients slots n → SlotsListed clients (set slots n (slotOf (getD clients n 0))) (n + 1)
+slots-more clients slots n h t =
+    record {
+      room = length-set slots n (slotOf (getD clients n 0)) ∙ t .room;
+      each-slot = λ g k. elim (ℕ-discrete g n) [
+        | yes e ↦ rw (e, getD-set-same slots n (slotOf (getD clients n 0)) 0 (omega (arith, t .room)))
+        | no d ↦ getD-set-other slots n g (slotOf (getD clients n 0)) 0 d ∙ t .each-slot g (omega arith)
+      ];
+    }
+
+getD-zeros : (n i : ℕ) → getD {A = ℕ} (replicate n 0) i 0 ≡ 0
+getD-zeros zero i = refl
+getD-zeros (suc n) zero = refl
+getD-zeros (suc n) (suc i) = getD-zeros n i
+
 -- The table of no folder.
 pub chained-none : (clients : List ℕ) → Chained clients (replicate 2048 0) (replicate 512 0) 0
 chained-none clients =
@@ -81,6 +97,7 @@ chained-none clients =
       slots = length-replicate {A = ℕ} 2048 0;
       places = length-replicate {A = ℕ} 512 0;
       at-head = λ s h. rw (getD-replicate {A = ℕ} 2048 s 0 0 h, pastLast-zero);
+      fresh = λ g h. getD-zeros 512 g;
       at-next = λ g h. absurd (not-suc-le-zero h);
     }
 
@@ -93,6 +110,7 @@ chained-more clients heads nexts n h t =
       slots = length-set heads (slotOf (getD clients n 0)) (n + 1) ∙ t .slots;
       places = length-set nexts n (getD heads (slotOf (getD clients n 0)) 0) ∙ t .places;
       at-head = λ s h. elim (ℕ-discrete s (slotOf (getD clients n 0))) [ yes e ↦ own s e | no d ↦ other s h d ];
+      fresh = λ g h. getD-set-other nexts n g (getD heads (slotOf (getD clients n 0)) 0) 0 (λ e. absurd (omega arith)) ∙ t .fresh g (omega arith);
       at-next = λ g h. elim (ℕ-discrete g n) [ yes e ↦ last g e | no d ↦ passed g (omega arith) d ];
     }
   where

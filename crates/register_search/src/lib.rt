@@ -38,10 +38,10 @@ fn first_later(classes: &[u16], clients: &[u16]) -> usize
     if classes.len() <= 1 {
         return classes.len();
     }
-    if classes.len() <= 64 {
-        return walk_few(classes, clients);
+    if 64 < classes.len() {
+        return walk_later(classes, clients);
     }
-    walk_later(classes, clients)
+    walk_few(classes, clients)
 }
 
 // The two folders that refusal 3 carries, where lists that fit have such.

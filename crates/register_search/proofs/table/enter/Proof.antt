@@ -1,30 +1,20 @@
 -- `enter` meets its contract: the folder heads its slot.
 use native.Mathlib.Omega.{arith}
-use borrow.Author.Needs.{needs}
 use Rattle.register_search.proofs.Chains.{chained-more}
+use borrow.Author.Needs.{needs}
 use Rattle.register_search.proofs.table.enter.Statement.{statement}
 use Rattle.register_search.proofs.table.enter.Tie as tie
 
-mul-nexts : tie.Need-mul-nexts
-mul-nexts c = search needs
+mul-link : tie.Need-mul-link
+mul-link c = search needs
 
-shared-slice-read-nexts : tie.Need-shared-slice-read-nexts
-shared-slice-read-nexts c = search needs
+element-copy-out-link : tie.Need-element-copy-out-link
+element-copy-out-link c = search needs
 
-slot-requires : tie.Need-slot-requires
-slot-requires c κs = search needs
-
-mul-nexts-2 : tie.Need-mul-nexts-2
-mul-nexts-2 c = search needs
-
-element-copy-out-nexts : tie.Need-element-copy-out-nexts
-element-copy-out-nexts c = search needs
-
-mul-nexts-3 : tie.Need-mul-nexts-3
-mul-nexts-3 c = search needs
-
-element-write-nexts : tie.Need-element-write-nexts
-element-write-nexts c = search needs
+link-requires : tie.Need-link-requires
+link-requires c κs =
+    let p = c .before .before .before .pre in
+    (omega arith, (p .2 .1 .places, p .2 .1 .fresh _ (omega arith)))
 
 add-heads : tie.Need-add-heads
 add-heads c = search needs
@@ -40,19 +30,16 @@ element-write-heads c = search needs
 
 returns : tie.Need-returns
 returns c =
-    rw (c .before .slot .ensures) (chained-more _ _ _ _ (omega arith) (c .before .before .before .before .pre .1 .1))
+    let p = c .before .before .before .before .pre in
+    rw (c .link .ensures, p .0) (chained-more _ _ _ _ (omega arith) (p .2 .1))
 
 pub enter-spec : {M : Type 1} → statement M
 enter-spec =
     tie.close
     (tie.spec
-    mul-nexts
-    shared-slice-read-nexts
-    slot-requires
-    mul-nexts-2
-    element-copy-out-nexts
-    mul-nexts-3
-    element-write-nexts
+    mul-link
+    element-copy-out-link
+    link-requires
     add-heads
     cast-heads
     mul-heads

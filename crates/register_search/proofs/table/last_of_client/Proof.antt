@@ -7,19 +7,16 @@ use Rattle.register_search.proofs.table.last_of_client.Statement.{state
 use Rattle.register_search.proofs.table.last_of_client.Tie as tie
 
 abbrev Inv-loop : tie.InvT-loop
-Inv-loop clients heads nexts f steps client s left₀ past₀ left past = Walking clients (client .0) f past
+Inv-loop clients heads nexts s f steps client left₀ past₀ left past = Walking clients (client .0) f past
 
 abbrev μ-loop : tie.MeasureT-loop
-μ-loop clients heads nexts f steps client s left₀ past₀ left past = past
+μ-loop clients heads nexts s f steps client left₀ past₀ left past = past
 
 mul-wide : tie.Need-mul-wide Inv-loop μ-loop
 mul-wide c = search needs
 
 shared-slice-read-wide : tie.Need-shared-slice-read-wide Inv-loop μ-loop
 shared-slice-read-wide c = search needs
-
-slot-requires : tie.Need-slot-requires Inv-loop μ-loop
-slot-requires c κs = search needs
 
 mul-wide-2 : tie.Need-mul-wide-2 Inv-loop μ-loop
 mul-wide-2 c = search needs
@@ -32,7 +29,8 @@ wide-requires c κs = search needs
 
 loop-holds : tie.Need-loop-holds Inv-loop μ-loop
 loop-holds c =
-    rw (c .wide .ensures, c .before .before .slot .ensures) (walk-start _ _ _ _ _ (c .before .before .before .before .before .pre .1 .1))
+    let p = c .before .before .before .before .pre in
+    rw (c .wide .ensures, p .0) (walk-start _ _ _ _ _ (p .2 .1))
 
 sub-g : tie.Need-sub-g Inv-loop μ-loop
 sub-g c = search needs
@@ -68,11 +66,11 @@ wide-requires-2 c κs = search needs
 
 loop-less : tie.Need-loop-less Inv-loop μ-loop
 loop-less c =
-    rw (c .wide2 .ensures) (walk-falls _ _ _ _ _ (c .before .before .before .before .before .before .before .before .before .before .before .before .before .pre .1 .1) _ (c .before .before .before .before .before .before .before .loop .inv) (c .before .before .before .before .before .before .loop-test .taken))
+    rw (c .wide2 .ensures) (walk-falls _ _ _ _ _ (c .before .before .before .before .before .before .before .before .before .before .before .before .pre .2 .1) _ (c .before .before .before .before .before .before .before .loop .inv) (c .before .before .before .before .before .before .loop-test .taken))
 
 loop-again : tie.Need-loop-again Inv-loop μ-loop
 loop-again c =
-    rw (c .wide2 .ensures) (walk-next _ _ _ _ _ (c .before .before .before .before .before .before .before .before .before .before .before .before .before .pre .1 .1) _ (c .before .before .before .before .before .before .before .loop .inv) (c .before .before .before .before .before .before .loop-test .taken) (sym (c .before .before .before .before .same-client .ensures) ∙ c .before .before .before .if1 .left))
+    rw (c .wide2 .ensures) (walk-next _ _ _ _ _ (c .before .before .before .before .before .before .before .before .before .before .before .before .pre .2 .1) _ (c .before .before .before .before .before .before .before .loop .inv) (c .before .before .before .before .before .before .loop-test .taken) (sym (c .before .before .before .before .same-client .ensures) ∙ c .before .before .before .if1 .left))
 
 returns-3 : tie.Need-returns-3 Inv-loop μ-loop
 returns-3 c =
@@ -86,7 +84,6 @@ last-of-client-spec =
     μ-loop
     mul-wide
     shared-slice-read-wide
-    slot-requires
     mul-wide-2
     element-copy-out-wide
     wide-requires
