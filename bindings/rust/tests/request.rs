@@ -119,6 +119,50 @@ fn large_houses() {
     tally.met(&ALL, 5);
 }
 
+/// Houses of the sizes about which the walks over a row change their way.
+#[test]
+fn middle_houses() {
+    let mut random = Random::new(19);
+    let mut tally = Tally::default();
+    for _ in 0..60_000 {
+        let sizes = [15, 16, 17, 23, 24, 25, 31, 32, 33, 47, 48, 49, 63, 64, 65, 66, 72];
+        let (logins, folders) = (random.range(1, 4), random.pick(&sizes));
+        let clients = random.pick(&[1, 2, 3, 40]);
+        let mut house = good(&mut random, logins, folders, clients);
+        if random.once_in(8) {
+            house.damage(&mut random);
+        }
+        tally.add(number(&one_case(&mut random, &house)));
+    }
+    tally.met(&ALL, 50);
+}
+
+/// One folder in the way, at every place of rows of every small size: of each sort, by classes and by pairs, in the first, a middle and the last row.
+#[test]
+fn one_folder_in_the_way() {
+    let mut random = Random::new(20);
+    let mut tally = Tally::default();
+    let before = Guarded::new(&mut random, &[0; 200]);
+    for folders in 2..=70_usize {
+        let labels: Vec<(u16, u16)> = (0..folders).map(|folder| (1 + folder as u16 % 2, 1 + folder as u16)).collect();
+        let pairs: Vec<(u16, u16)> = (1..folders as u16).map(|folder| (1, 1 + folder)).collect();
+        let houses = [Owned::new(3, &labels), Owned::new(3, &labels).paired(1, &pairs)];
+        for place in 1..folders {
+            for (login, cell) in [(0, 1), (1, 2), (2, 3), (2, 4)] {
+                let mut matrix = vec![0; 3 * folders];
+                matrix[usize::from(login) * folders + place] = cell;
+                let matrix = Guarded::new(&mut random, &matrix);
+                for (house, kind) in houses.iter().flat_map(|house| (1..=4).map(move |kind| (house, kind))) {
+                    let ask = Ask { login, folder: 0, kind };
+                    let reply = same_request(&house.lend(), &mut matrix.clone(), ask, &mut before.clone(), 3, 200);
+                    tally.add(number(&reply));
+                }
+            }
+        }
+    }
+    tally.met(&[0, 8, 20, 21, 22], 1_000);
+}
+
 /// Every row of three folders, cells 0 to 4, over every choice of four labels, for every folder and kind.
 #[test]
 fn every_small_row() {

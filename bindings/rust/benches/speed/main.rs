@@ -15,6 +15,7 @@ mod baseline;
 mod inputs;
 mod paired;
 mod timing;
+mod tuned;
 
 use std::hint::black_box;
 
@@ -129,18 +130,23 @@ fn contenders<'a>(input: &'a Input, restore: bool, ways: &[Way]) -> Vec<Task<'a>
 }
 
 fn compare_requests(input: &Input, restore: bool) -> Vec<Measured> {
-    compare(contenders(input, restore, &[baseline::request_linear, baseline::request_quadratic]))
+    compare(contenders(input, restore, &[baseline::request_linear, tuned::request, baseline::request_quadratic]))
 }
 
 fn requests() {
     println!("## Request\n");
-    println!("| Request | library | Rust, linear check | Rust, quadratic check | library / linear | times faster than quadratic |");
-    println!("|---|---|---|---|---|---|");
+    println!("| Request | library | Rust, linear check | Rust, tuned | Rust, quadratic check | library / linear | library / tuned | times faster than quadratic |");
+    println!("|---|---|---|---|---|---|---|---|");
     let row = |name: &str, input: Input, restore: bool| {
         let measured = compare_requests(&input, restore);
         let times: Vec<String> = measured.iter().map(ns).collect();
-        let faster = measured[2].least / measured[0].least;
-        println!("| {name} | {} | {} | {faster:.1} |", times.join(" | "), ratio(&measured, 1));
+        let faster = measured[3].least / measured[0].least;
+        println!(
+            "| {name} | {} | {} | {} | {faster:.1} |",
+            times.join(" | "),
+            ratio(&measured, 1),
+            ratio(&measured, 2)
+        );
     };
     for (name, input, restore) in inputs::requests() {
         row(name, input, restore);
@@ -179,18 +185,18 @@ fn checks() {
 
 fn growth() {
     println!("## Growth: a read on a blank row, all clients distinct, 128 logins\n");
-    println!("| Folders | library | Rust, linear check | Rust, quadratic check | library / linear |");
-    println!("|---|---|---|---|---|");
+    println!("| Folders | library | Rust, linear check | Rust, tuned | Rust, quadratic check | library / linear | library / tuned |");
+    println!("|---|---|---|---|---|---|---|");
     let mut first: Option<Vec<Measured>> = None;
     for (folders, input) in inputs::growing() {
         let measured = compare_requests(&input, true);
         let times: Vec<String> = measured.iter().map(ns).collect();
-        println!("| {folders} | {} | {} |", times.join(" | "), ratio(&measured, 1));
+        println!("| {folders} | {} | {} | {} |", times.join(" | "), ratio(&measured, 1), ratio(&measured, 2));
         let first = first.get_or_insert_with(|| measured.clone());
         if folders == 512 {
             let grown: Vec<String> =
                 measured.iter().zip(first).map(|(now, then)| format!("{:.1} times", now.least / then.least)).collect();
-            println!("| from 64 to 512 | {} | |", grown.join(" | "));
+            println!("| from 64 to 512 | {} | | |", grown.join(" | "));
         }
     }
     println!();

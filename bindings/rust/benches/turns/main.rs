@@ -12,6 +12,9 @@ mod reference;
 #[allow(dead_code)]
 #[path = "../speed/inputs.rs"]
 mod inputs;
+#[allow(dead_code)]
+#[path = "../speed/paired.rs"]
+mod paired;
 #[path = "../speed/timing.rs"]
 mod timing;
 
@@ -232,6 +235,22 @@ fn agree(libraries: [Library; 2], input: &Input) {
     assert_eq!(one, other);
 }
 
+/// Requests of houses between the smallest and the largest, each with whether the row is put back after it: one that reads, one that takes rights
+/// back, and one that is refused for the last folder.
+fn sizes() -> Vec<(String, Input, bool)> {
+    let of = |folders: usize| {
+        let house = || Input::new(128, folders, |folder| folder + 1);
+        let back = house().entering(2, |folder| folder % 4 == 1).asking(127, 0, 1);
+        let refused = house().entering(1, |folder| folder + 1 == folders).asking(127, 0, 3);
+        [
+            (format!("{folders} folders: read, blank row"), house().asking(127, folders / 2, 1), true),
+            ("… read, taking a quarter of the rights back".to_owned(), back, true),
+            ("… write, refused for the last folder".to_owned(), refused, false),
+        ]
+    };
+    [4, 12, 16, 17, 24, 32, 33, 48, 64, 65, 100, 128, 200, 256, 384].into_iter().flat_map(of).collect()
+}
+
 fn main() {
     let (before, after) = (Library::open("HOUSECHERVIL_BEFORE"), Library::open("HOUSECHERVIL_AFTER"));
     let turns = [after, before];
@@ -240,6 +259,21 @@ fn main() {
     for (name, input, restore) in inputs::requests() {
         agree(turns, &input);
         row(name, turns.map(|library| asking(library, &input, restore)));
+    }
+    heading("Request, other sizes");
+    for (name, input, restore) in sizes() {
+        agree(turns, &input);
+        row(&name, turns.map(|library| asking(library, &input, restore)));
+    }
+    heading("Request by pairs");
+    for (name, input, restore) in paired::requests() {
+        agree(turns, &input);
+        row(name, turns.map(|library| asking(library, &input, restore)));
+    }
+    heading("Request by pairs, chosen against the library");
+    for (name, input) in paired::adversaries() {
+        agree(turns, &input);
+        row(&name, turns.map(|library| asking(library, &input, true)));
     }
     heading("Growth: a read on a blank row");
     for (folders, input) in inputs::growing() {
