@@ -29,7 +29,7 @@ use Rattle.row_labels.proofs.Fitting.{fits-row}
 use Rattle.row.proofs.Fitting.{rowAnswer-fits}
 use Rattle.row_grant.proofs.Granted.{rowGranted-fits}
 use Rattle.row_decision.specs.Decision.{rowChecks, servedAnswer}
-use Rattle.row_request.specs.Served.{servedOutcome}
+use Rattle.row_request.specs.Served.{servedOutcome, servedAt}
 use Rattle.monitor.specs.Front.{passed, frontChecks, fourToSeven, oneToSeven}
 
 pub product-fits : {p f : ℕ} → p ≤ 128 → f ≤ 512 → p * f ≤ 65536
@@ -215,8 +215,9 @@ module _ (p : ℕ) (classes clients : List ℕ) (byPairs : Bool) (firsts seconds
   unfolding servedOutcome servedAnswer rowAnswer fitChecks pairsFit rowGranted fitting listsFit wallAnswer wallChecks rivals paired foreigners stakes lost rowAfter
   served-folders row q log = refl
 
-  -- What a request leaves on the row of the login that asks, in its place in the matrix.
-  pub outcome-served : (m : List ℕ) (q : Request) (log : Log) (x : Outcome) → Opened register m q →
-      x ≡ servedOutcome (registerBy 0 classes clients byPairs firsts seconds) (rowOf register m (q .login)) q log →
-      record { answer = x .answer; matrix = withRow register m (q .login) (x .matrix); log = x .log } ≡ told (outcome register m q log)
-  outcome-served m q log x o e = ap (inMatrix register m q log) (e ∙ sym (served-folders (rowOf register m (q .login)) q log)) ∙ sym (outcome-open register m q log o)
+  -- What a request leaves on the row of the login that asks, in its place in the matrix: the login's number times F.
+  pub outcome-served : (m : List ℕ) (q : Request) (log : Log) → Opened register m q →
+      servedAt (registerBy 0 classes clients byPairs firsts seconds) m (q .login * length classes) q log ≡ told (outcome register m q log)
+  unfolding servedAt
+  outcome-served m q log o =
+      ap (inMatrix register m q log) (sym (served-folders (rowOf register m (q .login)) q log)) ∙ sym (outcome-open register m q log o)

@@ -1,4 +1,4 @@
-// The reference monitor (document 01, 'The four kinds of request' and 'Where each refusal is checked'; document 02, C-12).
+// The reference monitor (document 01, 'The four kinds of request' and 'Where each refusal is checked'; document 02, C-12 and C-13).
 use ids::Request;
 use log_writer::Reply;
 use log_writer::Tail;
@@ -37,11 +37,11 @@ pub fn request(
     );
     match first {
         Response::Granted(_) => {
-            let folders = classes.len();
-            let start = (asked.login.0 as usize) * folders;
-            let stop = start + folders;
+            // The row's start, worked out once: every walk over the row goes on from here.
+            let start = (asked.login.0 as usize) * classes.len();
             row_request::serve(
-                &mut matrix[start..stop],
+                matrix,
+                start,
                 classes,
                 clients,
                 by_pairs,

@@ -1,12 +1,13 @@
 -- Laws of the matrix's rows: a row put in is read back, the others stay.
-use Prim.Native.Nat.{ℕ, suc, _+_, _*_, _-_, _≤_, _<_}
-use mathlib.Core.Path.{_≡_, refl, sym, ap, _∙_}
-use mathlib.Core.List.{List, [], _∷_, _++_}
+use Prim.Native.Nat.{ℕ, _+_, _*_, _-_, _≤_, _<_}
+use mathlib.Core.Path.{_≡_, sym, ap, _∙_}
+use mathlib.Core.List.{List, _++_}
 use native.Mathlib.Nat.{suc-mul, mul-le-mul-right}
 use native.Mathlib.Omega.{arith}
 use native.Mathlib.Decide.{decLt}
-use lib.ListN.{length, take, drop, length-append, length-take, length-drop, take-append-drop, drop-of-length-le}
-use lib.Seq.{length-take-le, take-at, drop-at, drop-append-le, take-append-le, drop-append-add, drop-drop, take-nil}
+use lib.ListN.{length, take, drop, length-drop, take-append-drop}
+use lib.Seq.{length-take-le, take-at, drop-at, drop-append-le, take-append-le, drop-drop}
+use Rattle.vocabulary.proofs.Place.{length-rowAt, withRowAt-rowAt, length-withRowAt}
 use Rattle.register.specs.Register.{Register, folders}
 use Rattle.policy.specs.Rules.{rowOf, withRow}
 
@@ -19,7 +20,7 @@ module _ (m row : List ℕ) (start f : ℕ) (fits : start + f ≤ length m) (who
   front = length-take-le start m (omega arith)
 
   pub patch-length : length (take start m ++ (row ++ drop f (drop start m))) ≡ length m
-  patch-length = simp (length-append, front, whole, length-drop) (omega arith)
+  patch-length = length-withRowAt m row start f (whole ∙ sym (length-rowAt m start f fits))
 
   pub patch-same : take f (drop start (take start m ++ (row ++ drop f (drop start m)))) ≡ row
   patch-same = rw (drop-at (take start m) (row ++ drop f (drop start m)) start front) (take-at row (drop f (drop start m)) f whole)
@@ -51,7 +52,7 @@ module _ (r : Register) (m : List ℕ) (whole : length m ≡ r .logins * folders
   within = rw whole (row-fits s (r .logins) (folders r) known)
 
   pub length-rowOf : length (rowOf r m s) ≡ folders r
-  length-rowOf = let w = within in length-take-le (folders r) (drop (s * folders r) m) (rw length-drop (omega arith))
+  length-rowOf = length-rowAt m (s * folders r) (folders r) within
 
   module _ (row : List ℕ) (full : length row ≡ folders r) where
     pub length-withRow : length (withRow r m s row) ≡ length m
@@ -72,4 +73,4 @@ module _ (r : Register) (m : List ℕ) (whole : length m ≡ r .logins * folders
 
 -- A row put back is the matrix as it was.
 pub withRow-rowOf : (r : Register) (m : List ℕ) (s : ℕ) → withRow r m s (rowOf r m s) ≡ m
-withRow-rowOf r m s = rw (take-append-drop (folders r) (drop (s * folders r) m)) (take-append-drop (s * folders r) m)
+withRow-rowOf r m s = withRowAt-rowAt m (s * folders r) (folders r)

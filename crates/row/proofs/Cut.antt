@@ -11,6 +11,7 @@ use lib.ListN.{length, getD}
 use lib.Dec.{eqb, leb}
 use borrow.Author.Tests.{eqb-true, eq-eqb, ne-eqb, le-leb, lt-leb, not-false}
 use Rattle.vocabulary.specs.Answer.{Answer, answer, judge}
+use Rattle.vocabulary.specs.Place.{rowAt}
 use Rattle.vocabulary.specs.Those.{those, some, smallest}
 use Rattle.vocabulary.proofs.Those.{first-some, first-none, those-agree, those-never}
 use Rattle.vocabulary.proofs.Bools.{either, both, true-or-false}
@@ -25,7 +26,7 @@ use Rattle.row_labels.specs.Fitting.{listsFit, fitting, labelAt}
 use Rattle.row_labels.specs.Cut.{Alongside}
 use Rattle.register_pairs.specs.Pair.{pairsFit}
 use Rattle.row_marks.specs.Opposed.{opposers, firstOpposer}
-use Rattle.row_labels.proofs.Fitting.{fits-are}
+use Rattle.row_labels.proofs.Fitting.{lists-are, fits-are}
 use Rattle.row.specs.Row.{fitChecks, rowAnswer, ruled, lostOn}
 use Rattle.row.specs.Cut.{allOf, firstOf, ruledPast}
 use Rattle.row.proofs.Fitting.{lostOn-fits}
@@ -35,18 +36,27 @@ pub writes-other : (kind : ℕ) → writes kind ≡ true → eqb kind 2 ≡ fals
 writes-other kind e =
     ⊎-elim (λ a. rw (eqb-true kind 3 a)) (λ a. rw (eqb-true kind 4 a)) (either (eqb kind 3) (eqb kind 4) e)
 
-pub leb-self : (n : ℕ) → leb n n ≡ true
-leb-self n = le-leb n n (omega arith)
+-- A number that is the row's length is not within it: it stands for 'none'.
+pub same-leb : (m n : ℕ) → m ≡ n → leb n m ≡ true
+same-leb m n e = le-leb n m (omega arith)
 
 -- Row 20 by what is found: the first rival, or none.
-module _ (row classes clients : List ℕ) (l : Label) (kind : ℕ) {n : ℕ} where
-  pub ruledPast-rival : n < length row → answer 20 (n ∷ []) ≡ ruledPast n row classes clients l kind
+module _ (row classes clients : List ℕ) (same : length classes ≡ length row) (l : Label) (kind : ℕ) {n : ℕ} where
+  pub ruledPast-rival : n < length classes → answer 20 (n ∷ []) ≡ ruledPast n row classes clients l kind
   unfolding ruledPast judge
-  ruledPast-rival h = rw (lt-leb (length row) n h)
+  ruledPast-rival h = rw (lt-leb (length row) n (omega arith))
 
-  pub ruledPast-none : length row ≤ n → ruledPast (length row) row classes clients l kind ≡ ruledPast n row classes clients l kind
+  pub ruledPast-none : length classes ≤ n → ruledPast (length classes) row classes clients l kind ≡ ruledPast n row classes clients l kind
   unfolding ruledPast judge
-  ruledPast-none h = rw (le-leb (length row) n h, leb-self (length row))
+  ruledPast-none h = rw (le-leb (length row) n (omega arith), same-leb _ _ same)
+
+-- Lists that fit a row are as the walks take them.
+pub walked : (r : Register) (row : List ℕ) → listsFit r row ≡ true → Alongside row (r .classes) (r .clients) × (folders r ≤ 512)
+walked r row e = let p = lists-are r row e in (p .0, omega (arith, p .0))
+
+-- The search by pairs takes the row by the length of the clients' list, which is that of the classes'.
+pub opposer-beside : (r : Register) (matrix : List ℕ) (start c : ℕ) {m n : ℕ} → m ≡ n → firstOpposer r (rowAt matrix start m) c ≡ firstOpposer r (rowAt matrix start n) c
+opposer-beside r matrix start c e = ap (λ (k : ℕ). firstOpposer r (rowAt matrix start k) c) e
 
 -- Whether the lists of pairs fit is asked of them alone.
 abbrev pub alone : Register → Register
@@ -163,7 +173,7 @@ module _ (r : Register) (row : List ℕ) (beside : Alongside row (r .classes) (r
         ⊎-elim past-write (λ w. elim (ℕ-discrete kind 2) [ yes e ↦ past-careful w e | no d ↦ past-read w d ]) (true-or-false (writes kind))
 
   -- What is answered by the searches is what the wall says.
-  pub wall-past : {n : ℕ} → n ≡ firstRival r row l → ruledPast n row (r .classes) (r .clients) l kind ≡ ruled (wallAnswer r row o kind)
+  wall-past : {n : ℕ} → n ≡ firstRival r row l → ruledPast n row (r .classes) (r .clients) l kind ≡ ruled (wallAnswer r row o kind)
   unfolding ruledPast judge
   wall-past {n} is =
       elim (decLt n (length row)) [
@@ -184,15 +194,17 @@ module _ (r : Register) (row : List ℕ) (o kind : ℕ) where
   unfolding rowAnswer fitChecks judge listsFit pairsFit
   says-pairs e p = rw (e, p)
 
-  pub says-unknown : listed ≡ true → (r .byPairs && not (pairsFit (alone r))) ≡ false → length row ≤ o → answer 6 [] ≡ ruled (rowAnswer r row o kind)
+  pub says-unknown : listed ≡ true → (r .byPairs && not (pairsFit (alone r))) ≡ false → folders r ≤ o → answer 6 [] ≡ ruled (rowAnswer r row o kind)
   unfolding rowAnswer fitChecks judge listsFit pairsFit
-  says-unknown e p h = rw (e, p, le-leb (length row) o h)
+  says-unknown e p h = rw (e, p, le-leb (length row) o (omega (arith, walked (registerOf 0 (r .classes) (r .clients)) row e .0)))
 
-  -- Past them, the wall speaks.
-  pub says-wall : listed ≡ true → (r .byPairs && not (pairsFit (alone r))) ≡ false → o < length row → {a : Answer} → a ≡ ruled (wallAnswer r row o kind) →
-      a ≡ ruled (rowAnswer r row o kind)
+  -- Past them, the wall speaks: by what the searches find, after the first rival.
+  pub says-wall : listed ≡ true → (r .byPairs && not (pairsFit (alone r))) ≡ false → o < folders r → (l : Label) → l ≡ labelAt (r .classes) (r .clients) o →
+      {n : ℕ} → n ≡ firstRival r row l → {a : Answer} → a ≡ ruledPast n row (r .classes) (r .clients) l kind → a ≡ ruled (rowAnswer r row o kind)
   unfolding rowAnswer fitChecks judge listsFit pairsFit
-  says-wall e p h is = rw (e, p, lt-leb (length row) o h) is
+  says-wall e p h l asked is past =
+      let beside = walked (registerOf 0 (r .classes) (r .clients)) row e .0 in
+      rw (e, p, lt-leb (length row) o (omega arith)) (past ∙ wall-past r row beside p o kind l asked is)
 
 -- The first of two tests, that lists and folder fit.
 pub fits-first : (r : Register) (row : List ℕ) (o : ℕ) {a : Bool} (b : Bool) → a ≡ fitting r row o → (a && b) ≡ true → fitting r row o ≡ true

@@ -1,6 +1,6 @@
 // What the wall says of a request, on the row of the login that asks, and whether a grant takes write rights back (document 01, 'The four kinds of
-// request'; document 02, C-12). Rows, lists and folders of any lengths and numbers may be given; whether they fit is asked before any walk.
-// Kind and cells are judged by the caller.
+// request'; document 02, C-12). The row is given by the matrix and its start; its folders are those of the classes' list. Rows, lists and folders of any
+// places, lengths and numbers may be given; whether they fit is asked before any walk. Kind and cells are judged by the caller.
 use cell_rules::Sort;
 use ids::FolderNo;
 use ids::Label;
@@ -10,6 +10,7 @@ ghost use mathlib.Core.Bool.{true, false};
 ghost use mathlib.Core.List.{List};
 ghost use lib.ListN.{length};
 ghost use Rattle.vocabulary.specs.Those.{some};
+ghost use Rattle.vocabulary.specs.Place.{rowIn, lentRow};
 ghost use Rattle.register.specs.Register.{registerBy};
 ghost use Rattle.register.specs.Lent.{lentClients, lentFolders, lentFoldersBy};
 ghost use Rattle.policy.specs.Rules.{writes};
@@ -39,25 +40,32 @@ pub enum Ruling {
 }
 
 // Row 21 of the table, for a kind that enters a write right, where there is no rival.
-fn rule_write(row: &[u8], classes: &[u16], clients: &[u16], o: Label) -> Ruling
-    requires { ⌜ Alongside (now row) (now classes) (now clients) × (length (now row) ≤ 512) ⌝ }
-    ensures { λ r. ⌜ ((kind : ℕ) → writes kind ≡ true → rulingAnswer r ≡ ruledPast (length (now (row .entry))) (now (row .entry)) (now (classes .entry)) (now (clients .entry)) o kind) ⌝ }
+fn rule_write(matrix: &[u8], start: usize, classes: &[u16], clients: &[u16], o: Label) -> Ruling
+    requires { ⌜ Alongside (rowIn matrix start classes) (now classes) (now clients) × (length (now classes) ≤ 512) ⌝ }
+    ensures { λ r. ⌜ ((kind : ℕ) → writes kind ≡ true → rulingAnswer r ≡ ruledPast (length (now (classes .entry))) (lentRow matrix start classes) (now (classes .entry)) (now (clients .entry)) o kind) ⌝ }
 {
-    let foreign = walks::find(Sort::Foreign, row, classes, clients, o);
-    if foreign < row.len() {
+    let foreign = walks::find(Sort::Foreign, matrix, start, classes, clients, o);
+    if foreign < classes.len() {
         return Ruling::Foreign(walks::folder_no(foreign));
     }
     Ruling::Granted
 }
 
 // Row 22 of the table, for a kind that enters no write right, where there is no rival.
-fn rule_read(row: &[u8], classes: &[u16], clients: &[u16], o: Label, kind: u16) -> Ruling
-    requires { ⌜ Alongside (now row) (now classes) (now clients) × (length (now row) ≤ 512) × (writes kind ≡ false) ⌝ }
-    ensures { λ r. ⌜ rulingAnswer r ≡ ruledPast (length (now (row .entry))) (now (row .entry)) (now (classes .entry)) (now (clients .entry)) o kind ⌝ }
+fn rule_read(
+    matrix: &[u8],
+    start: usize,
+    classes: &[u16],
+    clients: &[u16],
+    o: Label,
+    kind: u16,
+) -> Ruling
+    requires { ⌜ Alongside (rowIn matrix start classes) (now classes) (now clients) × (length (now classes) ≤ 512) × (writes kind ≡ false) ⌝ }
+    ensures { λ r. ⌜ rulingAnswer r ≡ ruledPast (length (now (classes .entry))) (lentRow matrix start classes) (now (classes .entry)) (now (clients .entry)) o kind ⌝ }
 {
     if kind == 2 {
-        let stake = walks::find(Sort::AtStake, row, classes, clients, o);
-        if stake < row.len() {
+        let stake = walks::find(Sort::AtStake, matrix, start, classes, clients, o);
+        if stake < classes.len() {
             return Ruling::AtStake(walks::folder_no(stake));
         }
     }
@@ -66,54 +74,57 @@ fn rule_read(row: &[u8], classes: &[u16], clients: &[u16], o: Label, kind: u16) 
 
 // What a login whose row this is gets for a request of this folder and kind, by classes; whatever pairs came with the register are not looked at.
 pub fn decide_by_classes(
-    row: &[u8],
+    matrix: &[u8],
+    start: usize,
     classes: &[u16],
     clients: &[u16],
     folder: FolderNo,
     kind: u16,
 ) -> Ruling
-    ensures { λ r. ⌜ ((firsts seconds : List ℕ) → rulingAnswer r ≡ ruled (rowAnswer (registerBy 0 (now (classes .entry)) (now (clients .entry)) false firsts seconds) (now (row .entry)) (folder .0) kind)) ⌝ }
+    ensures { λ r. ⌜ ((firsts seconds : List ℕ) → rulingAnswer r ≡ ruled (rowAnswer (registerBy 0 (now (classes .entry)) (now (clients .entry)) false firsts seconds) (lentRow matrix start classes) (folder .0) kind)) ⌝ }
 {
-    if !row_labels::lists_fit(row, classes, clients) {
+    if !row_labels::lists_fit(matrix, start, classes, clients) {
         return Ruling::Unfit;
     }
-    if row.len() <= folder.0 as usize {
+    if classes.len() <= folder.0 as usize {
         return Ruling::UnknownFolder;
     }
     let o = row_labels::label_of(classes, clients, folder);
-    let rival = walks::find(Sort::Rival, row, classes, clients, o);
-    if rival < row.len() {
+    let rival = walks::find(Sort::Rival, matrix, start, classes, clients, o);
+    if rival < classes.len() {
         return Ruling::Rival(walks::folder_no(rival));
     }
     if kinds::writes(kind) {
-        return rule_write(row, classes, clients, o);
+        return rule_write(matrix, start, classes, clients, o);
     }
-    rule_read(row, classes, clients, o, kind)
+    rule_read(matrix, start, classes, clients, o, kind)
 }
 
 // By pairs, the rows 20 and 21 of a kind that enters a write right, and 20 and 22 of one that enters none. Each asks for the first rival itself: a
 // search that is called from two places is compiled apart from the request, which by classes is then as quick as without it.
 fn write_by_pairs(
-    row: &[u8],
+    matrix: &[u8],
+    start: usize,
     classes: &[u16],
     clients: &[u16],
     firsts: &[u16],
     seconds: &[u16],
     o: Label,
 ) -> Ruling
-    requires { ⌜ Alongside (now row) (now classes) (now clients) × (length (now row) ≤ 512) ⌝ }
-    ensures { λ r. ⌜ ((kind : ℕ) → writes kind ≡ true → rulingAnswer r ≡ ruledPast (firstOpposer (lentClients clients firsts seconds) (now (row .entry)) (o .client .0)) (now (row .entry)) (now (classes .entry)) (now (clients .entry)) o kind) ⌝ }
+    requires { ⌜ Alongside (rowIn matrix start classes) (now classes) (now clients) × (length (now classes) ≤ 512) ⌝ }
+    ensures { λ r. ⌜ ((kind : ℕ) → writes kind ≡ true → rulingAnswer r ≡ ruledPast (firstOpposer (lentClients clients firsts seconds) (lentRow matrix start classes) (o .client .0)) (lentRow matrix start classes) (now (classes .entry)) (now (clients .entry)) o kind) ⌝ }
 {
     let client = o.client;
-    let opposer = row_pairs::first_opposer(row, clients, firsts, seconds, client);
-    if opposer < row.len() {
+    let opposer = row_pairs::first_opposer(matrix, start, clients, firsts, seconds, client);
+    if opposer < classes.len() {
         return Ruling::Rival(walks::folder_no(opposer));
     }
-    rule_write(row, classes, clients, o)
+    rule_write(matrix, start, classes, clients, o)
 }
 
 fn read_by_pairs(
-    row: &[u8],
+    matrix: &[u8],
+    start: usize,
     classes: &[u16],
     clients: &[u16],
     firsts: &[u16],
@@ -121,20 +132,21 @@ fn read_by_pairs(
     o: Label,
     kind: u16,
 ) -> Ruling
-    requires { ⌜ Alongside (now row) (now classes) (now clients) × (length (now row) ≤ 512) × (writes kind ≡ false) ⌝ }
-    ensures { λ r. ⌜ rulingAnswer r ≡ ruledPast (firstOpposer (lentClients clients firsts seconds) (now (row .entry)) (o .client .0)) (now (row .entry)) (now (classes .entry)) (now (clients .entry)) o kind ⌝ }
+    requires { ⌜ Alongside (rowIn matrix start classes) (now classes) (now clients) × (length (now classes) ≤ 512) × (writes kind ≡ false) ⌝ }
+    ensures { λ r. ⌜ rulingAnswer r ≡ ruledPast (firstOpposer (lentClients clients firsts seconds) (lentRow matrix start classes) (o .client .0)) (lentRow matrix start classes) (now (classes .entry)) (now (clients .entry)) o kind ⌝ }
 {
     let client = o.client;
-    let opposer = row_pairs::first_opposer(row, clients, firsts, seconds, client);
-    if opposer < row.len() {
+    let opposer = row_pairs::first_opposer(matrix, start, clients, firsts, seconds, client);
+    if opposer < classes.len() {
         return Ruling::Rival(walks::folder_no(opposer));
     }
-    rule_read(row, classes, clients, o, kind)
+    rule_read(matrix, start, classes, clients, o, kind)
 }
 
 // What a login whose row this is gets for a request of this folder and kind, by pairs.
 pub fn decide_by_pairs(
-    row: &[u8],
+    matrix: &[u8],
+    start: usize,
     classes: &[u16],
     clients: &[u16],
     firsts: &[u16],
@@ -142,32 +154,39 @@ pub fn decide_by_pairs(
     folder: FolderNo,
     kind: u16,
 ) -> Ruling
-    ensures { λ r. ⌜ rulingAnswer r ≡ ruled (rowAnswer (lentFoldersBy classes clients true firsts seconds) (now (row .entry)) (folder .0) kind) ⌝ }
+    ensures { λ r. ⌜ rulingAnswer r ≡ ruled (rowAnswer (lentFoldersBy classes clients true firsts seconds) (lentRow matrix start classes) (folder .0) kind) ⌝ }
 {
-    if !row_labels::lists_fit(row, classes, clients) {
+    if !row_labels::lists_fit(matrix, start, classes, clients) {
         return Ruling::Unfit;
     }
     if !register_pairs::pairs_fit(firsts, seconds) {
         return Ruling::BadPairs;
     }
-    let folders = row.len();
+    let folders = classes.len();
     if folders <= folder.0 as usize {
         return Ruling::UnknownFolder;
     }
     let o = row_labels::label_of(classes, clients, folder);
     if kinds::writes(kind) {
-        return write_by_pairs(row, classes, clients, firsts, seconds, o);
+        return write_by_pairs(matrix, start, classes, clients, firsts, seconds, o);
     }
-    read_by_pairs(row, classes, clients, firsts, seconds, o, kind)
+    read_by_pairs(matrix, start, classes, clients, firsts, seconds, o, kind)
 }
 
 // Whether any folder loses its write right on a grant.
-pub fn any_lost(row: &[u8], classes: &[u16], clients: &[u16], folder: FolderNo, kind: u16) -> bool
-    ensures { λ r. ⌜ r ≡ some (lostOn (lentFolders classes clients) (now (row .entry)) (folder .0) kind) ⌝ }
+pub fn any_lost(
+    matrix: &[u8],
+    start: usize,
+    classes: &[u16],
+    clients: &[u16],
+    folder: FolderNo,
+    kind: u16,
+) -> bool
+    ensures { λ r. ⌜ r ≡ some (lostOn (lentFolders classes clients) (lentRow matrix start classes) (folder .0) kind) ⌝ }
 {
-    if row_labels::fits(row, classes, clients, folder) & kinds::revokes(kind) {
+    if row_labels::fits(matrix, start, classes, clients, folder) & kinds::revokes(kind) {
         let o = row_labels::label_of(classes, clients, folder);
-        return walks::any(Sort::AtStake, row, classes, clients, o);
+        return walks::any(Sort::AtStake, matrix, start, classes, clients, o);
     }
     false
 }

@@ -1,68 +1,143 @@
-// The searches through a row and the two lists beside it.
+// The searches through a row and the two lists beside it. Each walk keeps a running place in the matrix, one more at each folder.
 use cell_rules::Sort;
 use ids::ClassNo;
 use ids::ClientNo;
 use ids::FolderNo;
 use ids::Label;
-ghost use Prim.Native.Nat.{_≤_};
+ghost use Prim.Native.Nat.{_≤_, min};
 ghost use mathlib.Core.Path.{_≡_};
+ghost use mathlib.Core.Bool.{cond};
+ghost use lib.ListN.{length};
 ghost use Rattle.vocabulary.specs.Those.{some};
+ghost use Rattle.vocabulary.specs.Place.{rowIn, lentRow};
 ghost use Rattle.row_labels.specs.Cut.{Alongside};
 ghost use Rattle.row.specs.Cut.{allOf, firstOf};
 
-// A folder's number, from its place.
-pub(crate) fn folder_no(place: usize) -> FolderNo
-    requires { ⌜ place ≤ 512 ⌝ }
-    ensures { λ r. ⌜ r .0 ≡ place ⌝ }
+// A folder that a search found, as a folder's number.
+pub(crate) fn folder_no(found: usize) -> FolderNo
+    requires { ⌜ found ≤ 512 ⌝ }
+    ensures { λ r. ⌜ r .0 ≡ found ⌝ }
 {
-    FolderNo(place as u16)
+    FolderNo(found as u16)
 }
 
 // Whether the row has a folder of the sort looked for: what the walk has seen so far. It passes over every folder, without a branch, so
 // that it can go over several at a time.
-pub(crate) fn any(sort: Sort, row: &[u8], classes: &[u16], clients: &[u16], o: Label) -> bool
-    requires { ⌜ Alongside (now row) (now classes) (now clients) ⌝ }
-    ensures { λ r. ⌜ r ≡ some (allOf sort (now (row .entry)) (now (classes .entry)) (now (clients .entry)) o) ⌝ }
+pub(crate) fn any(
+    sort: Sort,
+    matrix: &[u8],
+    start: usize,
+    classes: &[u16],
+    clients: &[u16],
+    o: Label,
+) -> bool
+    requires { ⌜ Alongside (rowIn matrix start classes) (now classes) (now clients) ⌝ }
+    ensures { λ r. ⌜ r ≡ some (allOf sort (lentRow matrix start classes) (now (classes .entry)) (now (clients .entry)) o) ⌝ }
 {
     let mut seen = false;
+    let mut place = start;
     let mut f = 0;
-    while f < row.len() {
-        let cell = row[f];
+    while f < classes.len() {
+        let cell = matrix[place];
         let class = classes[f];
         let client = clients[f];
         let label = ids::labelled(ClassNo(class), ClientNo(client));
         seen = seen | cell_rules::of_sort(sort, cell, label, o);
+        place += 1;
         f += 1;
     }
     seen
 }
 
 // The first folder of the sort looked for, or the row's length. What the walk has passed has none.
-fn first(sort: Sort, row: &[u8], classes: &[u16], clients: &[u16], o: Label) -> usize
-    requires { ⌜ Alongside (now row) (now classes) (now clients) ⌝ }
-    ensures { λ r. ⌜ r ≡ firstOf sort (now (row .entry)) (now (classes .entry)) (now (clients .entry)) o ⌝ }
+fn first(
+    sort: Sort,
+    matrix: &[u8],
+    start: usize,
+    classes: &[u16],
+    clients: &[u16],
+    o: Label,
+) -> usize
+    requires { ⌜ Alongside (rowIn matrix start classes) (now classes) (now clients) ⌝ }
+    ensures { λ r. ⌜ r ≡ firstOf sort (lentRow matrix start classes) (now (classes .entry)) (now (clients .entry)) o ⌝ }
 {
+    let mut place = start;
     let mut f = 0;
-    while f < row.len() {
-        let cell = row[f];
+    while f < classes.len() {
+        let cell = matrix[place];
         let class = classes[f];
         let client = clients[f];
         let label = ids::labelled(ClassNo(class), ClientNo(client));
         if cell_rules::of_sort(sort, cell, label, o) {
             return f;
         }
+        place += 1;
         f += 1;
     }
     f
 }
 
-// The first folder of the sort looked for, or the row's length. Mostly there is none.
-pub(crate) fn find(sort: Sort, row: &[u8], classes: &[u16], clients: &[u16], o: Label) -> usize
-    requires { ⌜ Alongside (now row) (now classes) (now clients) ⌝ }
-    ensures { λ r. ⌜ r ≡ firstOf sort (now (row .entry)) (now (classes .entry)) (now (clients .entry)) o ⌝ }
+// The smaller of two numbers.
+fn smaller(a: u16, b: u16) -> u16
+    ensures { λ r. ⌜ r ≡ min a b ⌝ }
 {
-    if any(sort, row, classes, clients, o) {
-        return first(sort, row, classes, clients, o);
+    if b < a { b } else { a }
+}
+
+// A number where a test holds, else another.
+fn choose(test: bool, one: u16, other: u16) -> u16
+    ensures { λ r. ⌜ r ≡ cond test one other ⌝ }
+{
+    if test { one } else { other }
+}
+
+// The same as `first`: the smallest that the walk has met. Without a branch and in 16 bits, so that it goes over several folders at a time.
+fn least(
+    sort: Sort,
+    matrix: &[u8],
+    start: usize,
+    classes: &[u16],
+    clients: &[u16],
+    o: Label,
+) -> usize
+    requires { ⌜ Alongside (rowIn matrix start classes) (now classes) (now clients) × (length (now classes) ≤ 512) ⌝ }
+    ensures { λ r. ⌜ r ≡ firstOf sort (lentRow matrix start classes) (now (classes .entry)) (now (clients .entry)) o ⌝ }
+{
+    let none = classes.len() as u16;
+    let mut least = none;
+    let mut place = start;
+    let mut f = 0;
+    while f < classes.len() {
+        let cell = matrix[place];
+        let class = classes[f];
+        let client = clients[f];
+        let label = ids::labelled(ClassNo(class), ClientNo(client));
+        let found = cell_rules::of_sort(sort, cell, label, o);
+        least = smaller(least, choose(found, f as u16, none));
+        place += 1;
+        f += 1;
     }
-    row.len()
+    least as usize
+}
+
+// The first folder of the sort looked for, or the row's length. Mostly there is none, and over many folders one look says so; among few it is quicker
+// to seek at once.
+pub(crate) fn find(
+    sort: Sort,
+    matrix: &[u8],
+    start: usize,
+    classes: &[u16],
+    clients: &[u16],
+    o: Label,
+) -> usize
+    requires { ⌜ Alongside (rowIn matrix start classes) (now classes) (now clients) × (length (now classes) ≤ 512) ⌝ }
+    ensures { λ r. ⌜ r ≡ firstOf sort (lentRow matrix start classes) (now (classes .entry)) (now (clients .entry)) o ⌝ }
+{
+    if classes.len() < 32 {
+        return first(sort, matrix, start, classes, clients, o);
+    }
+    if any(sort, matrix, start, classes, clients, o) {
+        return least(sort, matrix, start, classes, clients, o);
+    }
+    classes.len()
 }

@@ -1,5 +1,6 @@
 // The decision on a request, on the row of the login that asks (document 01, 'Where each refusal is checked'; document 02, C-12): 1 for a row of over
-// 512 folders, rows 8 and 9 of the table, then what the row's crate says. Any row, lists and folder may be given; the kind is judged by the caller.
+// 512 folders, rows 8 and 9 of the table, then what the row's crate says. The row is given by the matrix and its start; its folders are those of the
+// classes' list. Any row, lists and folder may be given; the kind is judged by the caller.
 use ids::FolderNo;
 use ids::Request;
 use log_writer::Tail;
@@ -7,6 +8,7 @@ use log_writer::WallRefusal;
 use response::Response;
 use row::Ruling;
 ghost use mathlib.Core.Path.{_≡_};
+ghost use Rattle.vocabulary.specs.Place.{lentRow};
 ghost use Rattle.register.specs.Lent.{lentFoldersBy};
 ghost use Rattle.row.specs.Row.{rulingAnswer, ruled};
 ghost use Rattle.log_writer.specs.Reply.{requestOf};
@@ -39,7 +41,8 @@ fn by_ruling(ruling: Ruling) -> Decision
 
 // The decision on a request; `size` is the length of the log's buffer. No row has over 512 folders: one that has is not looked at.
 pub fn decide_row(
-    row: &[u8],
+    matrix: &[u8],
+    start: usize,
     classes: &[u16],
     clients: &[u16],
     by_pairs: bool,
@@ -49,13 +52,14 @@ pub fn decide_row(
     size: usize,
     tail: Tail,
 ) -> Decision
-    ensures { λ r. ⌜ judgedBy r ≡ judgedAs (ruled (servedAnswer (lentFoldersBy classes clients «by_pairs» firsts seconds) (now (row .entry)) (requestOf asked) size (tail .end))) ⌝ }
+    ensures { λ r. ⌜ judgedBy r ≡ judgedAs (ruled (servedAnswer (lentFoldersBy classes clients «by_pairs» firsts seconds) (lentRow matrix start classes) (requestOf asked) size (tail .end))) ⌝ }
 {
-    if 512 < row.len() {
+    let length = cells::row_length(matrix, start, classes.len());
+    if 512 < length {
         return Decision::Refused(Response::OutOfRange);
     }
-    let large = cells::first_above(row);
-    if large < row.len() {
+    let large = cells::first_above_in(matrix, start, classes.len());
+    if large < length {
         return Decision::Refused(Response::BadCell(FolderNo(large as u16)));
     }
     if size < tail.end {
@@ -63,7 +67,8 @@ pub fn decide_row(
     }
     if by_pairs {
         return by_ruling(row::decide_by_pairs(
-            row,
+            matrix,
+            start,
             classes,
             clients,
             firsts,
@@ -72,5 +77,5 @@ pub fn decide_row(
             asked.kind,
         ));
     }
-    by_ruling(row::decide_by_classes(row, classes, clients, asked.folder, asked.kind))
+    by_ruling(row::decide_by_classes(matrix, start, classes, clients, asked.folder, asked.kind))
 }

@@ -1,2 +1,3 @@
 -- For callers, and for the proofs of this crate:
 pub mod Granted
+pub mod Entered

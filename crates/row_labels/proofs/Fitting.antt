@@ -1,7 +1,7 @@
 -- What it means that lists and folder fit a row.
 use Prim.Native.Nat.{ℕ, _≤_, _<_}
-use mathlib.Core.Path.{_≡_}
-use mathlib.Core.Bool.{true, _&&_}
+use mathlib.Core.Path.{_≡_, refl, ap}
+use mathlib.Core.Bool.{Bool, true, false, _&&_}
 use mathlib.Core.List.{List}
 use native.Mathlib.Omega.{arith}
 use lib.ListN.{length}
@@ -27,6 +27,15 @@ module _ (r : Register) (row : List ℕ) where
   pub fits-row : (o : ℕ) → folders r ≡ length row → length (r .clients) ≡ length row → length row ≤ 512 → o < length row → fitting r row o ≡ true
   unfolding fitting
   fits-row o a b h k = rw (lists-fit a b h, lt-ltb o (length row) k)
+
+  -- Where the lists fit, a folder is in the row if it is in the classes' list.
+  pub fitting-by : (o : ℕ) → (listsFit r row && ltb o (folders r)) ≡ fitting r row o
+  unfolding fitting
+  fitting-by o = by-fit (listsFit r row) refl
+    where
+      by-fit : (b : Bool) → listsFit r row ≡ b → (b && ltb o (folders r)) ≡ (b && ltb o (length row))
+      by-fit true e = ap (ltb o) (lists-are e .0 .0)
+      by-fit false e = refl
 
   module _ (o : ℕ) (fit : fitting r row o ≡ true) where
     pub lists-fitting : listsFit r row ≡ true

@@ -1,26 +1,28 @@
-// The two lists of labels that a caller lends beside a login's row: whether they fit it, and a folder's label. Rows, lists and folders of any lengths
-// and numbers may be given.
+// The two lists of labels that a caller lends beside a login's row: whether they fit it, and a folder's label. The row is given by the matrix and its
+// start; its folders are those of the classes' list. Rows, lists and folders of any places, lengths and numbers may be given.
 use ids::ClassNo;
 use ids::ClientNo;
 use ids::FolderNo;
 use ids::Label;
 ghost use mathlib.Core.Path.{_≡_};
 ghost use lib.ListN.{getD};
+ghost use Rattle.vocabulary.specs.Place.{lentRow};
 ghost use Rattle.register.specs.Lent.{lentFolders};
 ghost use Rattle.row_labels.specs.Fitting.{listsFit, fitting, labelAt};
 
 // Whether the lists are of the row's length and it has at most 512 folders.
-pub fn lists_fit(row: &[u8], classes: &[u16], clients: &[u16]) -> bool
-    ensures { λ r. ⌜ r ≡ listsFit (lentFolders classes clients) (now (row .entry)) ⌝ }
+pub fn lists_fit(matrix: &[u8], start: usize, classes: &[u16], clients: &[u16]) -> bool
+    ensures { λ r. ⌜ r ≡ listsFit (lentFolders classes clients) (lentRow matrix start classes) ⌝ }
 {
-    (classes.len() == row.len()) & (clients.len() == row.len()) & (row.len() <= 512)
+    let length = cells::row_length(matrix, start, classes.len());
+    (classes.len() == length) & (clients.len() == length) & (length <= 512)
 }
 
 // Whether the folder is in the row too.
-pub fn fits(row: &[u8], classes: &[u16], clients: &[u16], folder: FolderNo) -> bool
-    ensures { λ r. ⌜ r ≡ fitting (lentFolders classes clients) (now (row .entry)) (folder .0) ⌝ }
+pub fn fits(matrix: &[u8], start: usize, classes: &[u16], clients: &[u16], folder: FolderNo) -> bool
+    ensures { λ r. ⌜ r ≡ fitting (lentFolders classes clients) (lentRow matrix start classes) (folder .0) ⌝ }
 {
-    lists_fit(row, classes, clients) & ((folder.0 as usize) < row.len())
+    lists_fit(matrix, start, classes, clients) & ((folder.0 as usize) < classes.len())
 }
 
 // What stands at a place; 0 past the end.

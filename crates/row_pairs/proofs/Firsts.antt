@@ -1,63 +1,49 @@
--- The first find of one test or another is the smaller of their first finds; so it is with the first readable folders of listed clients.
-use Prim.Native.Nat.{ℕ, zero, suc, _≤_, _<_, min}
-use mathlib.Core.Path.{_≡_, refl, ap, _∙_}
-use mathlib.Core.Bool.{Bool, true, false, cond, _||_, and-false, and-or-distrib-left}
+-- The first number below a bound that passes a test; and the first that passes one test or another, sought by the second only before the find by the first.
+use Prim.Native.Nat.{ℕ, zero, suc, _≤_, _<_}
+use mathlib.Core.Path.{_≡_, refl, sym}
+use mathlib.Core.Bool.{Bool, true, false, cond, _||_, or-true, and-false}
 use mathlib.Core.List.{List, [], _∷_, _++_}
 use native.Mathlib.Omega.{arith}
+use native.Mathlib.Decide.{decLt}
 use lib.ListN.{length, getD}
-use Rattle.vocabulary.specs.Those.{those, member}
-use Rattle.vocabulary.proofs.Those.{those-agree, those-never}
+use Rattle.vocabulary.specs.Those.{those, some, smallest, member}
+use Rattle.vocabulary.proofs.Those.{those-never, those-empty, smallest-holds, first-found, first-end}
 use Rattle.policy.specs.Rules.{cell, canRead}
-use Rattle.row_pairs.specs.Among.{readableWith, firstWith, firstAmong}
+use Rattle.row_pairs.specs.Among.{firstBelow, firstAmong}
 
--- The last number searched stands for 'none' where it passes the test.
-pub first-suc : (p : ℕ → Bool) (n d : ℕ) → getD (those p (suc n)) 0 d ≡ getD (those p n) 0 (cond (p n) n d)
+-- None before x passes, and x does, unless it is the bound.
+abbrev First : (ℕ → Bool) → (n x : ℕ) → Type 0
+First p n x = (x ≤ n) × (those p x ≡ []) × (x < n → p x ≡ true)
+
+first-is : (p : ℕ → Bool) (n : ℕ) → First p n (firstBelow p n)
 unfolding those
-first-suc p n d = at (those p n) (p n)
+first-is p zero = (omega arith, refl, λ h. absurd (omega arith))
+first-is p (suc n) = at (those p n) (p n) refl refl (first-is p n) (smallest-holds p n)
   where
-    at : (l : List ℕ) (b : Bool) → getD (l ++ cond b (n ∷ []) []) 0 d ≡ getD l 0 (cond b n d)
-    at [] true = refl
-    at [] false = refl
-    at (x ∷ xs) b = refl
+    at : (l : List ℕ) (b : Bool) → those p n ≡ l → p n ≡ b → First p n (getD l 0 n) → (some l ≡ true → (smallest l < n) × (p (smallest l) ≡ true)) →
+        First p (suc n) (getD (l ++ cond b (n ∷ []) []) 0 (suc n))
+    at [] true e f h s = (omega arith, e, λ j. f)
+    at [] false e f h s = (omega arith, rw (e, f), λ j. absurd (omega arith))
+    at (x ∷ l) b e f h s = (omega (arith, s refl .0), h .1, λ j. s refl .1)
 
--- Whatever stands for 'none', as long as no number searched is above it.
-first-or :
-    (p q : ℕ → Bool) (n d e : ℕ) → n ≤ d → n ≤ e →
-    getD (those (λ k. p k || q k) n) 0 (min d e) ≡ min (getD (those p n) 0 d) (getD (those q n) 0 e)
-unfolding those
-first-or p q zero d e h i = refl
-first-or p q (suc n) d e h i =
-    rw (first-suc p n d, first-suc q n e, first-suc (λ k. p k || q k) n (min d e), nearer (p n) (q n))
-    (first-or p q n (cond (p n) n d) (cond (q n) n e) (within (p n) d h) (within (q n) e i))
+is-first : (p : ℕ → Bool) (n x : ℕ) → First p n x → firstBelow p n ≡ x
+is-first p n x h = elim (decLt x n) [ yes l ↦ first-found p x n n (h .1) (h .2 l) l | no g ↦ first-end p x n (h .1) (h .0) (omega arith) ]
+
+pub first-most : (p : ℕ → Bool) (n : ℕ) → firstBelow p n ≤ n
+first-most p n = first-is p n .0
+
+either : (p q : ℕ → Bool) (n x y : ℕ) → First p n x → First q x y → First (λ k. p k || q k) n y
+either p q n x y a b = (omega (arith, a .0, b .0), those-never _ y before, here)
   where
-    nearer : (a b : Bool) → cond (a || b) n (min d e) ≡ min (cond a n d) (cond b n e)
-    nearer true true = omega arith
-    nearer true false = omega arith
-    nearer false true = omega arith
-    nearer false false = refl
+    before : (k : ℕ) → k < y → (p k || q k) ≡ false
+    before k h = rw (those-empty p x (a .1) k (omega (arith, b .0)), those-empty q y (b .1) k h)
 
-    within : (a : Bool) (x : ℕ) → suc n ≤ x → n ≤ cond a n x
-    within true x j = omega arith
-    within false x j = omega arith
+    here : y < n → (p y || q y) ≡ true
+    here h = elim (decLt y x) [ yes l ↦ rw (b .2 l, or-true) | no g ↦ let same : y ≡ x = omega (arith, b .0) in rw (same, a .2 (omega arith)) ]
 
-module _ (row clients : List ℕ) where
-  pub with-agree : (p q : ℕ → Bool) → ((x : ℕ) → p x ≡ q x) → firstWith p row clients ≡ firstWith q row clients
-  with-agree p q same =
-      ap (λ l. getD l 0 (length row)) (those-agree (readableWith p row clients) (readableWith q row clients) (length row) (λ f h. rw (same (getD clients f 0))))
+pub first-either : (p q : ℕ → Bool) (n : ℕ) → firstBelow q (firstBelow p n) ≡ firstBelow (λ k. p k || q k) n
+first-either p q n = sym (is-first _ n _ (either p q n _ _ (first-is p n) (first-is q (firstBelow p n))))
 
-  pub with-or : (p q : ℕ → Bool) → firstWith (λ x. p x || q x) row clients ≡ min (firstWith p row clients) (firstWith q row clients)
-  with-or p q =
-      let all = length row in
-      let same : min all all ≡ all = omega arith in
-      ap (λ l. getD l 0 all) (those-agree (readableWith (λ x. p x || q x) row clients) either all apart)
-      ∙ (rw same at (first-or (readableWith p row clients) (readableWith q row clients) all all all (omega arith) (omega arith)))
-    where
-      either : ℕ → Bool
-      either f = readableWith p row clients f || readableWith q row clients f
-
-      apart : (f : ℕ) → f < length row → readableWith (λ x. p x || q x) row clients f ≡ either f
-      apart f h = and-or-distrib-left (canRead (cell row f)) (p (getD clients f 0)) (q (getD clients f 0))
-
-  pub among-none : firstAmong [] row clients ≡ length row
-  unfolding member
-  among-none = rw (those-never _ (length row) (λ f h. and-false (canRead (cell row f))))
+pub among-none : (row clients : List ℕ) → firstAmong [] row clients ≡ length row
+unfolding member
+among-none row clients = rw (those-never _ (length row) (λ f h. and-false (canRead (cell row f))))

@@ -1,7 +1,7 @@
 -- A list of clients taken four by four.
 use Prim.Native.Nat.{ℕ, zero, suc, _+_, _<_}
-use mathlib.Core.Path.{_≡_, refl, sym, _∙_}
-use mathlib.Core.Bool.{Bool, true, false, _||_, or-false, or-assoc}
+use mathlib.Core.Path.{_≡_, refl, ap, _∙_}
+use mathlib.Core.Bool.{Bool, true, false, _&&_, _||_, or-false, or-assoc, and-or-distrib-left}
 use mathlib.Core.List.{List, [], _∷_}
 use native.Mathlib.Nat.{not-suc-le-zero, le-of-suc-le-suc, add-zero}
 use native.Mathlib.Omega.{arith}
@@ -9,10 +9,10 @@ use lib.Dec.{eqb}
 use lib.ListN.{length, getD, take, drop, length-drop}
 use lib.Seq.{getD-drop, take-add}
 use Rattle.vocabulary.specs.Those.{member}
-use Rattle.vocabulary.proofs.Those.{member-append}
-use Rattle.row_pairs.specs.Among.{firstWith, firstAmong, oneOf, fourFrom}
-use Rattle.row_pairs.proofs.Firsts.{with-agree, with-or}
-use Rattle.row_pairs.proofs.Cuts.{with-before, with-most}
+use Rattle.vocabulary.proofs.Those.{member-append, those-agree}
+use Rattle.policy.specs.Rules.{cell, canRead}
+use Rattle.row_pairs.specs.Among.{readableWith, firstBelow, firstAmong, oneOf, fourFrom}
+use Rattle.row_pairs.proofs.Firsts.{first-either}
 
 -- The first four of a list, the first of them again where there are fewer.
 four-members : (x : ℕ) (l : List ℕ) → 0 < length l → member x (take 4 l) ≡ oneOf (fourFrom l 0) x
@@ -35,12 +35,12 @@ getD-within (suc n) (x ∷ l) zero d e h j = refl
 getD-within (suc n) (x ∷ l) (suc i) d e h j = getD-within n l i d e (le-of-suc-le-suc h) (le-of-suc-le-suc j)
 
 -- Four listed clients more: the first find is theirs in what stands before the one so far.
-pub among-step : (list row clients : List ℕ) (i : ℕ) → i < length list → (first : ℕ) → first ≡ firstAmong (take i list) row clients →
-    firstWith (oneOf (fourFrom list i)) (take first row) (take first clients) ≡ firstAmong (take (i + 4) list) row clients
-among-step list row clients i h first e =
-    let so-far : ℕ → Bool = λ x. member x (take i list) in
-    let some-left : 0 < length (drop i list) = simp length-drop (omega arith) in
-    with-before (oneOf (fourFrom list i)) row clients first (omega (arith, e, with-most so-far row clients))
-    ∙ (rw e (sym (with-or row clients so-far (oneOf (fourFrom list i))))
-    ∙ with-agree row clients (λ x. so-far x || oneOf (fourFrom list i) x) (λ x. member x (take (i + 4) list))
-    (λ x. rw (take-add, member-append, four-members x (drop i list) some-left) (simp (getD-drop, add-zero))))
+pub among-step : (list row clients : List ℕ) (i : ℕ) → i < length list →
+    firstBelow (readableWith (oneOf (fourFrom list i)) row clients) (firstAmong (take i list) row clients) ≡ firstAmong (take (i + 4) list) row clients
+among-step list row clients i h =
+    first-either _ _ (length row) ∙ ap (λ l. getD l 0 (length row)) (those-agree _ _ (length row) (λ f j. next (canRead (cell row f)) (getD clients f 0)))
+  where
+    next : (b : Bool) (x : ℕ) → ((b && member x (take i list)) || (b && oneOf (fourFrom list i) x)) ≡ (b && member x (take (i + 4) list))
+    next b x =
+        let some-left : 0 < length (drop i list) = simp length-drop (omega arith) in
+        rw (← and-or-distrib-left, take-add, member-append, four-members x (drop i list) some-left) (simp (getD-drop, add-zero))

@@ -1,5 +1,4 @@
 pub mod Firsts
-pub mod Cuts
 pub mod Fours
 pub mod Opponents
 pub mod Opposers

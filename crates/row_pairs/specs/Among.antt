@@ -2,7 +2,7 @@
 use Prim.Native.Nat.{ℕ, _+_}
 use mathlib.Core.Bool.{Bool, _&&_, _||_}
 use mathlib.Core.List.{List}
-use lib.ListN.{length, getD, drop}
+use lib.ListN.{length, getD}
 use lib.Dec.{eqb}
 use Rattle.vocabulary.specs.Those.{those, member}
 use Rattle.policy.specs.Rules.{cell, canRead}
@@ -19,9 +19,9 @@ allWith p row clients = those (readableWith p row clients) (length row)
 abbrev pub firstWith : (ℕ → Bool) → List ℕ → List ℕ → ℕ
 firstWith p row clients = getD (allWith p row clients) 0 (length row)
 
--- The first of them from a place on.
-abbrev pub firstFrom : (ℕ → Bool) → List ℕ → List ℕ → ℕ → ℕ
-firstFrom p row clients i = i + firstWith p (drop i row) (drop i clients)
+-- The first number below n that passes a test, or n.
+abbrev pub firstBelow : (ℕ → Bool) → ℕ → ℕ
+firstBelow p n = getD (those p n) 0 n
 
 -- The first readable folder of a listed client, or the row's length.
 abbrev pub firstAmong : List ℕ → List ℕ → List ℕ → ℕ

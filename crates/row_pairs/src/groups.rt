@@ -1,14 +1,16 @@
-// The first readable folder of a listed client, sought by four clients at a time.
+// The first readable folder of a listed client, sought by four clients at a time. Each walk keeps a running place in the matrix, one more at each folder.
 use ids::ClientNo;
 use ids::same_client;
-ghost use Prim.Native.Nat.{_≤_, _<_, min};
+ghost use Prim.Native.Nat.{_≤_, _<_};
 ghost use mathlib.Core.Path.{_≡_};
 ghost use mathlib.Core.Bool.{_&&_};
+ghost use mathlib.Core.List.{[]};
 ghost use lib.ListN.{length, take, getD};
-ghost use Rattle.vocabulary.specs.Those.{some};
+ghost use Rattle.vocabulary.specs.Those.{those, some};
+ghost use Rattle.vocabulary.specs.Place.{rowIn, lentRow, Placed};
 ghost use Rattle.policy.specs.Rules.{canRead};
 ghost use Rattle.row_pairs.specs.Opponents.{most};
-ghost use Rattle.row_pairs.specs.Among.{oneOf, allWith, firstWith, fourFrom, firstAmong};
+ghost use Rattle.row_pairs.specs.Among.{oneOf, readableWith, firstBelow, fourFrom, firstAmong};
 
 // Four clients, sought at once.
 pub(crate) struct Four(ClientNo, ClientNo, ClientNo, ClientNo);
@@ -31,76 +33,86 @@ fn readable_of(cell: u8, x: ClientNo, g: Four) -> bool
     (cell % 2 == 1) & one_of(x, g)
 }
 
-// Whether the row has a readable folder of one of four clients. Without a branch in the loop, so that it goes over several folders at once.
-fn any_of(row: &[u8], clients: &[u16], g: Four) -> bool
-    requires { ⌜ length (now clients) ≡ length (now row) ⌝ }
-    ensures { λ r. ⌜ r ≡ some (allWith (oneOf g) (now (row .entry)) (now (clients .entry))) ⌝ }
+// Whether a folder below `to` is readable and of one of four clients, where none below `from`, which stands at the place, is. Without a branch in the loop, so that it goes over
+// several folders at once.
+fn any_of(
+    matrix: &[u8],
+    start: usize,
+    clients: &[u16],
+    g: Four,
+    place: usize,
+    from: usize,
+    to: usize,
+) -> bool
+    requires { ⌜ (length (now clients) ≡ length (rowIn matrix start clients)) × (from ≤ to) × (to ≤ length (now clients)) × (those (readableWith (oneOf g) (rowIn matrix start clients) (now clients)) from ≡ []) × Placed (length (now clients)) start from place ⌝ }
+    ensures { λ r. ⌜ r ≡ some (those (readableWith (oneOf g) (lentRow matrix start clients) (now (clients .entry))) to) ⌝ }
 {
     let mut seen = false;
-    let mut f = 0;
-    while f < row.len() {
-        let cell = row[f];
+    let mut at = place;
+    let mut f = from;
+    while f < to {
+        let cell = matrix[at];
         let client = clients[f];
         seen = seen | readable_of(cell, ClientNo(client), g);
+        at += 1;
         f += 1;
     }
     seen
 }
 
-// The first such folder, or the row's length.
-fn first_of(row: &[u8], clients: &[u16], g: Four) -> usize
-    requires { ⌜ length (now clients) ≡ length (now row) ⌝ }
-    ensures { λ r. ⌜ r ≡ firstWith (oneOf g) (now (row .entry)) (now (clients .entry)) ⌝ }
+// The first such folder, or `to`.
+fn first_of(
+    matrix: &[u8],
+    start: usize,
+    clients: &[u16],
+    g: Four,
+    place: usize,
+    from: usize,
+    to: usize,
+) -> usize
+    requires { ⌜ (length (now clients) ≡ length (rowIn matrix start clients)) × (from ≤ to) × (to ≤ length (now clients)) × (those (readableWith (oneOf g) (rowIn matrix start clients) (now clients)) from ≡ []) × Placed (length (now clients)) start from place ⌝ }
+    ensures { λ r. ⌜ r ≡ firstBelow (readableWith (oneOf g) (lentRow matrix start clients) (now (clients .entry))) to ⌝ }
 {
-    let mut f = 0;
-    while f < row.len() {
-        let cell = row[f];
+    let mut at = place;
+    let mut f = from;
+    while f < to {
+        let cell = matrix[at];
         let client = clients[f];
         if readable_of(cell, ClientNo(client), g) {
             return f;
         }
+        at += 1;
         f += 1;
     }
     f
 }
 
-// The smaller of two numbers.
-fn smaller(a: usize, b: usize) -> usize
-    ensures { λ r. ⌜ r ≡ min a b ⌝ }
+// The same from 0 on, by blocks of 32 folders: folder by folder only in the first block that has such a folder, or in the last.
+fn locate(matrix: &[u8], start: usize, clients: &[u16], g: Four, to: usize) -> usize
+    requires { ⌜ (length (now clients) ≡ length (rowIn matrix start clients)) × (to ≤ length (now clients)) ⌝ }
+    ensures { λ r. ⌜ r ≡ firstBelow (readableWith (oneOf g) (lentRow matrix start clients) (now (clients .entry))) to ⌝ }
 {
-    if b < a {
-        return b;
-    }
-    a
-}
-
-// The same, sought by blocks of 32 folders: folder by folder only in the first block that has such a folder.
-fn locate(row: &[u8], clients: &[u16], g: Four) -> usize
-    requires { ⌜ length (now clients) ≡ length (now row) ⌝ }
-    ensures { λ r. ⌜ r ≡ firstWith (oneOf g) (now (row .entry)) (now (clients .entry)) ⌝ }
-{
-    let mut start = 0;
-    while start < row.len() {
-        let end = smaller(start + 32, row.len());
-        let block_row = &row[start..end];
-        let block_clients = &clients[start..end];
-        if any_of(block_row, block_clients, g) {
-            return start + first_of(block_row, block_clients, g);
+    let mut place = start;
+    let mut f = 0;
+    while 32 < to - f {
+        if any_of(matrix, start, clients, g, place, f, f + 32) {
+            return first_of(matrix, start, clients, g, place, f, to);
         }
-        start = end;
+        place += 32;
+        f += 32;
     }
-    start
+    first_of(matrix, start, clients, g, place, f, to)
 }
 
-// The same. Mostly there is no such folder, and one look over the whole row says so quickest.
-fn find_of(row: &[u8], clients: &[u16], g: Four) -> usize
-    requires { ⌜ length (now clients) ≡ length (now row) ⌝ }
-    ensures { λ r. ⌜ r ≡ firstWith (oneOf g) (now (row .entry)) (now (clients .entry)) ⌝ }
+// The same. Mostly there is no such folder, and one look over all says so quickest.
+fn find_of(matrix: &[u8], start: usize, clients: &[u16], g: Four, to: usize) -> usize
+    requires { ⌜ (length (now clients) ≡ length (rowIn matrix start clients)) × (to ≤ length (now clients)) ⌝ }
+    ensures { λ r. ⌜ r ≡ firstBelow (readableWith (oneOf g) (lentRow matrix start clients) (now (clients .entry))) to ⌝ }
 {
-    if any_of(row, clients, g) {
-        return locate(row, clients, g);
+    if any_of(matrix, start, clients, g, start, 0, to) {
+        return locate(matrix, start, clients, g, to);
     }
-    row.len()
+    to
 }
 
 // The listed client at a place, or `otherwise` past the n listed ones.
@@ -127,15 +139,21 @@ fn four_from(list: &[u16; 32], n: usize, place: usize) -> Four
 }
 
 // The first readable folder of one of the n listed clients, or the row's length. Each group is sought only before the first find so far.
-pub(crate) fn first_among(row: &[u8], clients: &[u16], list: &[u16; 32], n: usize) -> usize
-    requires { ⌜ (length (now clients) ≡ length (now row)) × (n ≤ most) × (length (now list) ≡ most) ⌝ }
-    ensures { λ r. ⌜ r ≡ firstAmong (take n (now (list .entry))) (now (row .entry)) (now (clients .entry)) ⌝ }
+pub(crate) fn first_among(
+    matrix: &[u8],
+    start: usize,
+    clients: &[u16],
+    list: &[u16; 32],
+    n: usize,
+) -> usize
+    requires { ⌜ (length (now clients) ≡ length (rowIn matrix start clients)) × (n ≤ most) × (length (now list) ≡ most) ⌝ }
+    ensures { λ r. ⌜ r ≡ firstAmong (take n (now (list .entry))) (lentRow matrix start clients) (now (clients .entry)) ⌝ }
 {
-    let mut first = row.len();
+    let mut first = clients.len();
     let mut i = 0;
     while i < n {
         let g = four_from(list, n, i);
-        first = find_of(&row[0..first], &clients[0..first], g);
+        first = find_of(matrix, start, clients, g, first);
         i += 4;
     }
     first

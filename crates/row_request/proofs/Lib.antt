@@ -1,3 +1,4 @@
 pub mod Served
+pub mod InMatrix
 pub mod Lost
 pub mod Entered

@@ -3,13 +3,15 @@ use Prim.Native.Nat.{ℕ}
 use mathlib.Core.Path.{_≡_, refl, sym, ap, _∙_}
 use mathlib.Core.Logic.{_⊎_, inl, inr}
 use mathlib.Core.Bool.{true, false}
-use mathlib.Core.List.{List}
+use mathlib.Core.List.{List, []}
 use lib.ListN.{length}
 use lib.Dec.{eqb, ltb}
 use borrow.Author.Tests.{leb-false, lt-ltb, not-false}
 use Rattle.vocabulary.specs.Answer.{Answer, answer}
 use Rattle.vocabulary.proofs.Bools.{true-or-false, not-both, neither}
 use Rattle.vocabulary.proofs.Judge.{judge-silent}
+use Rattle.vocabulary.proofs.Those.{some-none}
+use Rattle.cells.specs.Above.{aboves}
 use Rattle.register.specs.Register.{Register, registerOf}
 use Rattle.response.specs.declared.Response.{Response}
 use Rattle.response.specs.Response.{responseAnswer}
@@ -54,6 +56,17 @@ module _ (r : Register) (row : List ℕ) (q : Request) (log : Log) where
   said-granted n =
       let e = judge-silent (rowChecks row (length (log .bytes)) (log .end)) (rowAnswer r row (q .folder) (q .kind)) 0 refl n .1 in
       e ∙ row-granted r row (q .folder) (q .kind) (rw e at n)
+
+  -- A grant is decided on a row that it fits, with cells of 0 to 3.
+  pub granted-sound : judgedBy Granted ≡ judgedAs (ruled said) → (fitting (registerOf 0 (r .classes) (r .clients)) row (q .folder) ≡ true) × (aboves row ≡ [])
+  unfolding servedAnswer rowChecks rowAnswer fitChecks fitting listsFit
+  granted-sound d =
+      let n = sym (ap (λ (j : Judged). j .answer .number) d ∙ ruled-number said) in
+      let a = judge-silent (rowChecks row (length (log .bytes)) (log .end)) (rowAnswer r row (q .folder) (q .kind)) 0 refl n in
+      let b = judge-silent (fitChecks r row (q .folder)) (wallAnswer r row (q .folder) (q .kind)) 0 refl (rw (a .1) at n) in
+      let f : listsFit r row ≡ true = not-false (listsFit r row) (b .0 .0) in
+      let k : ltb (q .folder) (length row) ≡ true = lt-ltb (q .folder) (length row) (leb-false (length row) (q .folder) (b .0 .1 .1 .0)) in
+      (rw (f, k), some-none (aboves row) (a .0 .1 .0))
 
   -- The carrying out of a grant looks at no conflict.
   pub served-granted : judgedBy Granted ≡ judgedAs (ruled said) → grantedOutcome (registerOf 0 (r .classes) (r .clients)) row q log ≡ servedOutcome r row q log

@@ -1,5 +1,6 @@
 // A request on the row of the login that asks, judged and carried out: the rows of the table from 8 to 30 (document 01, 'Where each refusal is
-// checked'). Any row, lists and folder may be given: what does not fit gets 1 or 6. The kind is judged by the caller.
+// checked'). The row is given by the matrix and its start; its folders are those of the classes' list. Any row, lists and folder may be given: what does
+// not fit gets 1, 11 or 6. The kind is judged by the caller.
 use ids::Request;
 use log_writer::Reply;
 use log_writer::Tail;
@@ -7,13 +8,14 @@ use row_decision::Decision;
 ghost use mathlib.Core.Path.{_≡_};
 ghost use Rattle.register.specs.Lent.{lentFoldersBy};
 ghost use Rattle.log_writer.specs.Reply.{requestOf, lentLog, replied};
-ghost use Rattle.row_request.specs.Served.{servedOutcome};
+ghost use Rattle.row_request.specs.Served.{servedAt};
 
 mod grant; // a grant carried out: the record, then the row
 
 // A request on a row, judged and carried out.
 pub fn serve(
-    row: &mut [u8],
+    matrix: &mut [u8],
+    start: usize,
     classes: &[u16],
     clients: &[u16],
     by_pairs: bool,
@@ -23,10 +25,11 @@ pub fn serve(
     log: &mut [u8],
     tail: Tail,
 ) -> Reply
-    ensures { λ r. ⌜ replied r (now (row .exit)) (now (log .exit)) ≡ servedOutcome (lentFoldersBy classes clients «by_pairs» firsts seconds) (now (row .entry)) (requestOf asked) (lentLog log tail) ⌝ }
+    ensures { λ r. ⌜ replied r (now (matrix .exit)) (now (log .exit)) ≡ servedAt (lentFoldersBy classes clients «by_pairs» firsts seconds) (now (matrix .entry)) start (requestOf asked) (lentLog log tail) ⌝ }
 {
     let decision = row_decision::decide_row(
-        row,
+        matrix,
+        start,
         classes,
         clients,
         by_pairs,
@@ -37,7 +40,7 @@ pub fn serve(
         tail,
     );
     match decision {
-        Decision::Granted => grant::grant(row, classes, clients, asked, log, tail),
+        Decision::Granted => grant::grant(matrix, start, classes, clients, asked, log, tail),
         Decision::Barred(refusal) => log_writer::log_refusal(log, tail, asked, refusal),
         Decision::Refused(response) => Reply {
             response: response,

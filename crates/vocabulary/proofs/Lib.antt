@@ -5,3 +5,4 @@ pub mod Each
 pub mod Order
 pub mod Sets
 pub mod Parsed
+pub mod Place

@@ -4,3 +4,5 @@ pub mod Answer
 pub mod Those
 pub mod Each
 pub mod Parsed
+-- A row in the matrix:
+pub mod Place

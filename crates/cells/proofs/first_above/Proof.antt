@@ -1,24 +1,16 @@
--- `first_above` meets its contract: where no cell is above 3, the length stands for the first.
-use mathlib.Core.Path.{sym, _∙_}
-use Rattle.vocabulary.proofs.Those.{first-absent}
-use Rattle.cells.specs.Above.{aboves}
-use borrow.Author.Needs.{needs}
+-- `first_above` meets its contract: a list is its own row, from 0 on.
+use mathlib.Core.Path.{ap, _∙_}
+use lib.ListN.{length}
+use Rattle.cells.specs.Above.{firstAbove}
+use Rattle.vocabulary.proofs.Place.{rowAt-all}
 use Rattle.cells.proofs.first_above.Statement.{statement}
 use Rattle.cells.proofs.first_above.Tie as tie
 
-any-above-requires : tie.Need-any-above-requires
-any-above-requires c κs = search needs
-
-seek-above-requires : tie.Need-seek-above-requires
-seek-above-requires c κs = search needs
+find-above-requires : tie.Need-find-above-requires
+find-above-requires c κs = ap length (rowAt-all (c .before .args .cells .now))
 
 returns : tie.Need-returns
-returns c = search needs
-
-returns-2 : tie.Need-returns-2
-unfolding aboves
-returns-2 c =
-    first-absent _ _ _ (sym (c .before .any-above .ensures) ∙ c .if1 .left)
+returns c = c .find-above .ensures ∙ ap firstAbove (rowAt-all (c .before .before .args .cells .now))
 
 pub first-above-spec : {M : Type 1} → statement M
-first-above-spec = tie.close (tie.spec any-above-requires seek-above-requires returns returns-2)
+first-above-spec = tie.close (tie.spec find-above-requires returns)

@@ -1,5 +1,5 @@
 -- `request` meets its contract: a refusal of the first rows is the outcome; otherwise the row is served in its place in the matrix.
-use native.Mathlib.Nat.{add-sub-cancel-left}
+use mathlib.Core.Path.{_∙_}
 use Rattle.register.specs.Register.{registerBy}
 use Rattle.log_writer.specs.Reply.{requestOf, logOf}
 use Rattle.response.proofs.NotGranted.{not-granted}
@@ -23,22 +23,6 @@ mul-start c =
     let w = row-within (opened _ (c .before .before .before .before .before .before .before .before .before .before .args .matrix .now) _ _ (rw (c .before .enum-told .given .1) at (c .before .before .before .judge-front .ensures))) in
     omega arith
 
-add-stop : tie.Need-add-stop
-add-stop c =
-    let w = row-within (opened _ (c .before .before .before .before .before .before .before .before .before .before .args .matrix .now) _ _ (rw (c .before .enum-told .given .1) at (c .before .before .before .judge-front .ensures))) in
-    omega arith
-
-sub-serve : tie.Need-sub-serve
-sub-serve c = search needs
-
-part-serve-start : tie.Need-part-serve-start
-part-serve-start c = search needs
-
-part-serve-end : tie.Need-part-serve-end
-part-serve-end c =
-    let w = row-within (opened _ (c .before .before .before .before .before .before .before .before .before .before .args .matrix .now) _ _ (rw (c .before .enum-told .given .1) at (c .before .before .before .judge-front .ensures))) in
-    omega arith
-
 serve-requires : tie.Need-serve-requires
 serve-requires c κs = search needs
 
@@ -52,7 +36,7 @@ returns : tie.Need-returns
 returns c =
     let s = c .before .before .before .before .before .before .before .before .before .before .before .before .before .before .before .before .before .args in
     let o = opened _ (s .matrix .now) _ _ (rw (c .before .before .before .before .before .before .before .before .enum-told .given .1) at (c .before .before .before .before .before .before .before .before .before .before .judge-front .ensures)) in
-    rw add-sub-cancel-left (outcome-served (s .logins) (s .classes .now) (s .clients .now) (s .by-pairs) (s .firsts .now) (s .seconds .now) (s .matrix .now) (requestOf (s .asked)) (logOf (s .log .now) (s .tail)) _ o (rw add-sub-cancel-left at (c .before .before .before .before .serve .ensures)))
+    c .before .before .before .before .serve .ensures ∙ outcome-served (s .logins) (s .classes .now) (s .clients .now) (s .by-pairs) (s .firsts .now) (s .seconds .now) (s .matrix .now) (requestOf (s .asked)) (logOf (s .log .now) (s .tail)) o
 
 returns-2 : tie.Need-returns-2
 returns-2 c =
@@ -67,10 +51,6 @@ request-spec =
     enum-told
     cast-start
     mul-start
-    add-stop
-    sub-serve
-    part-serve-start
-    part-serve-end
     serve-requires
     same-length
     same-length-2

@@ -1,6 +1,5 @@
 -- `decide_by_classes` meets its contract: rows 1 and 6 of the table, then the wall's, by classes.
-use Rattle.row.proofs.Cut.{ruledPast-rival, ruledPast-none, says-unfit, says-unknown, says-wall, wall-past}
-use Rattle.row_labels.proofs.Fitting.{lists-are}
+use Rattle.row.proofs.Cut.{ruledPast-rival, ruledPast-none, walked, says-unfit, says-unknown, says-wall}
 use borrow.Author.Tests.{not-true, not-false}
 use mathlib.Core.Path.{refl, sym, _∙_}
 use borrow.Author.Needs.{needs}
@@ -27,39 +26,40 @@ label-of-requires c κs = search needs
 
 find-requires : tie.Need-find-requires
 find-requires c κs =
-    lists-are _ _ (sym (c .before .before .before .before .lists-fit .ensures) ∙ not-false _ (c .before .before .before .if1 .left)) .0
+    walked _ _ (sym (c .before .before .before .before .lists-fit .ensures) ∙ not-false _ (c .before .before .before .if1 .left))
 
 folder-no-requires : tie.Need-folder-no-requires
 folder-no-requires c κs =
-    search (needs, lists-are _ _ (sym (c .before .before .before .before .before .before .lists-fit .ensures) ∙ not-false _ (c .before .before .before .before .before .if1 .left)) .1)
+    search (needs, walked _ _ (sym (c .before .before .before .before .before .before .lists-fit .ensures) ∙ not-false _ (c .before .before .before .before .before .if1 .left)) .1)
 
 returns-3 : tie.Need-returns-3
 returns-3 c =
     let listed = sym (c .before .before .before .before .before .before .before .lists-fit .ensures) ∙ not-false _ (c .before .before .before .before .before .before .if1 .left) in
-    λ firsts seconds. rw (c .folder-no .ensures) (says-wall _ _ _ _ listed refl (c .before .before .before .before .if2 .left) (ruledPast-rival _ _ _ _ _ (c .before .if3 .taken) ∙ wall-past _ _ (lists-are _ _ listed .0) refl _ _ _ (c .before .before .before .label-of .ensures) (c .before .before .find .ensures)))
+    λ firsts seconds. rw (c .folder-no .ensures) (says-wall _ _ _ _ listed refl (c .before .before .before .before .if2 .left) _ (c .before .before .before .label-of .ensures) (c .before .before .find .ensures) (ruledPast-rival _ _ _ (walked _ _ listed .0 .0) _ _ (c .before .if3 .taken)))
 
 writes-requires : tie.Need-writes-requires
 writes-requires c κs = search needs
 
 rule-write-requires : tie.Need-rule-write-requires
 rule-write-requires c κs =
-    let l = lists-are _ _ (sym (c .before .before .before .before .before .before .before .before .lists-fit .ensures) ∙ not-false _ (c .before .before .before .before .before .before .before .if1 .left)) in (l .0, l .1)
+    walked _ _ (sym (c .before .before .before .before .before .before .before .before .lists-fit .ensures) ∙ not-false _ (c .before .before .before .before .before .before .before .if1 .left))
 
 returns-4 : tie.Need-returns-4
 returns-4 c =
     let listed = sym (c .before .before .before .before .before .before .before .before .before .lists-fit .ensures) ∙ not-false _ (c .before .before .before .before .before .before .before .before .if1 .left) in
-    let past = c .rule-write .ensures _ (sym (c .before .before .writes .ensures) ∙ c .before .if4 .taken) ∙ ruledPast-none _ _ _ _ _ (c .before .before .before .if3 .left) in
-    λ firsts seconds. says-wall _ _ _ _ listed refl (c .before .before .before .before .before .before .if2 .left) (past ∙ wall-past _ _ (lists-are _ _ listed .0) refl _ _ _ (c .before .before .before .before .before .label-of .ensures) (c .before .before .before .before .find .ensures))
+    let past = c .rule-write .ensures _ (sym (c .before .before .writes .ensures) ∙ c .before .if4 .taken) ∙ ruledPast-none _ _ _ (walked _ _ listed .0 .0) _ _ (c .before .before .before .if3 .left) in
+    λ firsts seconds. says-wall _ _ _ _ listed refl (c .before .before .before .before .before .before .if2 .left) _ (c .before .before .before .before .before .label-of .ensures) (c .before .before .before .before .find .ensures) past
 
 rule-read-requires : tie.Need-rule-read-requires
 rule-read-requires c κs =
-    let l = lists-are _ _ (sym (c .before .before .before .before .before .before .before .before .lists-fit .ensures) ∙ not-false _ (c .before .before .before .before .before .before .before .if1 .left)) in (l .0, l .1, sym (c .before .writes .ensures) ∙ c .if4 .left)
+    let l = walked _ _ (sym (c .before .before .before .before .before .before .before .before .lists-fit .ensures) ∙ not-false _ (c .before .before .before .before .before .before .before .if1 .left)) in
+    (l .0, l .1, sym (c .before .writes .ensures) ∙ c .if4 .left)
 
 returns-5 : tie.Need-returns-5
 returns-5 c =
     let listed = sym (c .before .before .before .before .before .before .before .before .before .lists-fit .ensures) ∙ not-false _ (c .before .before .before .before .before .before .before .before .if1 .left) in
-    let past = c .rule-read .ensures ∙ ruledPast-none _ _ _ _ _ (c .before .before .before .if3 .left) in
-    λ firsts seconds. says-wall _ _ _ _ listed refl (c .before .before .before .before .before .before .if2 .left) (past ∙ wall-past _ _ (lists-are _ _ listed .0) refl _ _ _ (c .before .before .before .before .before .label-of .ensures) (c .before .before .before .before .find .ensures))
+    let past = c .rule-read .ensures ∙ ruledPast-none _ _ _ (walked _ _ listed .0 .0) _ _ (c .before .before .before .if3 .left) in
+    λ firsts seconds. says-wall _ _ _ _ listed refl (c .before .before .before .before .before .before .if2 .left) _ (c .before .before .before .before .before .label-of .ensures) (c .before .before .before .before .find .ensures) past
 
 pub decide-by-classes-spec : {M : Type 1} → statement M
 decide-by-classes-spec =

@@ -1,6 +1,5 @@
 -- `decide_by_pairs` meets its contract: rows 1, 11 and 6 of the table, then the wall's, by pairs.
-use Rattle.row.proofs.Cut.{says-unfit, says-pairs, says-unknown, says-wall, wall-past}
-use Rattle.row_labels.proofs.Fitting.{lists-are}
+use Rattle.row.proofs.Cut.{walked, says-unfit, says-pairs, says-unknown, says-wall}
 use borrow.Author.Tests.{not-true, not-false}
 use mathlib.Core.Bool.{not}
 use mathlib.Core.Path.{refl, ap, sym, _∙_}
@@ -39,24 +38,24 @@ writes-requires c κs = search needs
 
 write-by-pairs-requires : tie.Need-write-by-pairs-requires
 write-by-pairs-requires c κs =
-    let l = lists-are _ _ (sym (c .before .before .before .before .before .before .before .before .lists-fit .ensures) ∙ not-false _ (c .before .before .before .before .before .before .before .if1 .left)) in (l .0, l .1)
+    walked _ _ (sym (c .before .before .before .before .before .before .before .before .lists-fit .ensures) ∙ not-false _ (c .before .before .before .before .before .before .before .if1 .left))
 
 returns-4 : tie.Need-returns-4
 returns-4 c =
     let listed = sym (c .before .before .before .before .before .before .before .before .before .lists-fit .ensures) ∙ not-false _ (c .before .before .before .before .before .before .before .before .if1 .left) in
     let fit = ap not (sym (c .before .before .before .before .before .before .before .pairs-fit .ensures) ∙ not-false _ (c .before .before .before .before .before .before .if2 .left)) in
-    let w = sym (c .before .before .writes .ensures) ∙ c .before .if4 .taken in
-    says-wall _ _ _ _ listed fit (c .before .before .before .before .if3 .left) (c .write-by-pairs .ensures _ w ∙ wall-past _ _ (lists-are _ _ listed .0) fit _ _ _ (c .before .before .before .label-of .ensures) refl)
+    says-wall _ _ _ _ listed fit (c .before .before .before .before .if3 .left) _ (c .before .before .before .label-of .ensures) refl (c .write-by-pairs .ensures _ (sym (c .before .before .writes .ensures) ∙ c .before .if4 .taken))
 
 read-by-pairs-requires : tie.Need-read-by-pairs-requires
 read-by-pairs-requires c κs =
-    let l = lists-are _ _ (sym (c .before .before .before .before .before .before .before .before .lists-fit .ensures) ∙ not-false _ (c .before .before .before .before .before .before .before .if1 .left)) in (l .0, l .1, sym (c .before .writes .ensures) ∙ c .if4 .left)
+    let l = walked _ _ (sym (c .before .before .before .before .before .before .before .before .lists-fit .ensures) ∙ not-false _ (c .before .before .before .before .before .before .before .if1 .left)) in
+    (l .0, l .1, sym (c .before .writes .ensures) ∙ c .if4 .left)
 
 returns-5 : tie.Need-returns-5
 returns-5 c =
     let listed = sym (c .before .before .before .before .before .before .before .before .before .lists-fit .ensures) ∙ not-false _ (c .before .before .before .before .before .before .before .before .if1 .left) in
     let fit = ap not (sym (c .before .before .before .before .before .before .before .pairs-fit .ensures) ∙ not-false _ (c .before .before .before .before .before .before .if2 .left)) in
-    says-wall _ _ _ _ listed fit (c .before .before .before .before .if3 .left) (c .read-by-pairs .ensures ∙ wall-past _ _ (lists-are _ _ listed .0) fit _ _ _ (c .before .before .before .label-of .ensures) refl)
+    says-wall _ _ _ _ listed fit (c .before .before .before .before .if3 .left) _ (c .before .before .before .label-of .ensures) refl (c .read-by-pairs .ensures)
 
 pub decide-by-pairs-spec : {M : Type 1} → statement M
 decide-by-pairs-spec =

@@ -1,8 +1,7 @@
 -- `rule_read` meets its contract: row 22, by what its search finds, for a careful read alone.
-use Rattle.row.proofs.Cut.{leb-self}
+use Rattle.row.proofs.Cut.{same-leb}
 use Rattle.row.specs.Cut.{ruledPast}
 use Rattle.vocabulary.specs.Answer.{judge}
-use lib.ListN.{length}
 use borrow.Author.Tests.{lt-leb, le-leb, eq-eqb, ne-eqb}
 use borrow.Author.Needs.{needs}
 use Rattle.row.proofs.rule_read.Statement.{statement}
@@ -17,17 +16,19 @@ folder-no-requires c κs = search needs
 returns : tie.Need-returns
 unfolding ruledPast judge
 returns c =
-    rw (c .folder-no .ensures, c .before .before .find .ensures, leb-self (length (c .before .before .before .before .before .before .before .args .row .now)), c .before .before .before .before .before .before .before .pre .2, eq-eqb _ _ (c .before .before .before .if1 .taken), lt-leb _ _ (rw (c .before .before .find .ensures) at (c .before .if2 .taken)))
+    let e = c .before .before .before .before .before .before .before .pre .0 .0 in
+    rw (c .folder-no .ensures, ← c .before .before .find .ensures, same-leb _ _ e, c .before .before .before .before .before .before .before .pre .2, eq-eqb _ _ (c .before .before .before .if1 .taken), lt-leb _ _ (rw e at (c .before .if2 .taken)))
 
 returns-2 : tie.Need-returns-2
 unfolding ruledPast judge
 returns-2 c =
-    rw (leb-self (length (c .before .before .before .before .before .before .args .row .now)), c .before .before .before .before .before .before .pre .2, eq-eqb _ _ (c .before .before .if1 .taken), le-leb _ _ (rw (c .before .find .ensures) at (c .if2 .left)))
+    let e = c .before .before .before .before .before .before .pre .0 .0 in
+    rw (← c .before .find .ensures, same-leb _ _ e, c .before .before .before .before .before .before .pre .2, eq-eqb _ _ (c .before .before .if1 .taken), le-leb _ _ (rw e at (c .if2 .left)))
 
 returns-3 : tie.Need-returns-3
 unfolding ruledPast judge
 returns-3 c =
-    rw (leb-self (length (c .before .before .before .before .args .row .now)), c .before .before .before .before .pre .2, ne-eqb _ _ (c .if1 .left))
+    rw (same-leb _ _ (c .before .before .before .before .pre .0 .0), c .before .before .before .before .pre .2, ne-eqb _ _ (c .if1 .left))
 
 pub rule-read-spec : {M : Type 1} → statement M
 rule-read-spec = tie.close (tie.spec find-requires folder-no-requires returns returns-2 returns-3)

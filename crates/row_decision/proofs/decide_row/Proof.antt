@@ -6,23 +6,28 @@ use borrow.Author.Needs.{needs}
 use Rattle.row_decision.proofs.decide_row.Statement.{statement}
 use Rattle.row_decision.proofs.decide_row.Tie as tie
 
+row-length-requires : tie.Need-row-length-requires
+row-length-requires c κs = search needs
+
 returns : tie.Need-returns
 returns c =
-    judged-long _ _ _ _ _ (c .if1 .taken)
+    judged-long _ _ _ _ _ (rw (c .before .row-length .ensures) at (c .if1 .taken))
 
-first-above-requires : tie.Need-first-above-requires
-first-above-requires c κs = search needs
+first-above-in-requires : tie.Need-first-above-in-requires
+first-above-in-requires c κs = search needs
 
-cast-t14 : tie.Need-cast-t14
-cast-t14 c = search needs
+cast-t16 : tie.Need-cast-t16
+cast-t16 c = search needs
 
 returns-2 : tie.Need-returns-2
 returns-2 c =
-    judged-large _ _ _ _ _ (c .before .before .if1 .left) _ (c .before .first-above .ensures) (c .if2 .taken)
+    let n = c .before .before .before .row-length .ensures in
+    judged-large _ _ _ _ _ (rw n at (c .before .before .if1 .left)) _ (c .before .first-above-in .ensures) (rw n at (c .if2 .taken))
 
 returns-3 : tie.Need-returns-3
 returns-3 c =
-    judged-end _ _ _ _ _ (c .before .before .before .before .if1 .left) (c .before .before .before .first-above .ensures) (c .before .before .if2 .left) (c .if3 .taken)
+    let n = c .before .before .before .before .before .row-length .ensures in
+    judged-end _ _ _ _ _ (rw n at (c .before .before .before .before .if1 .left)) (c .before .before .before .first-above-in .ensures) (rw n at (c .before .before .if2 .left)) (c .if3 .taken)
 
 decide-by-pairs-requires : tie.Need-decide-by-pairs-requires
 decide-by-pairs-requires c κs = search needs
@@ -32,8 +37,9 @@ by-ruling-requires c κs = search needs
 
 returns-4 : tie.Need-returns-4
 returns-4 c =
-    let mode : c .before .before .before .before .before .before .before .before .before .before .before .before .before .args .by-pairs ≡ true = c .before .before .if4 .taken in
-    c .by-ruling .ensures ∙ judged-row _ _ _ _ _ (c .before .before .before .before .before .before .before .if1 .left) (c .before .before .before .before .before .before .first-above .ensures) (c .before .before .before .before .before .if2 .left) (c .before .before .before .if3 .left) (rw mode (c .before .decide-by-pairs .ensures))
+    let n = c .before .before .before .before .before .before .before .before .row-length .ensures in
+    let mode : c .before .before .before .before .before .before .before .before .before .before .before .before .before .before .args .by-pairs ≡ true = c .before .before .if4 .taken in
+    c .by-ruling .ensures ∙ judged-row _ _ _ _ _ (rw n at (c .before .before .before .before .before .before .before .if1 .left)) (c .before .before .before .before .before .before .first-above-in .ensures) (rw n at (c .before .before .before .before .before .if2 .left)) (c .before .before .before .if3 .left) (rw mode (c .before .decide-by-pairs .ensures))
 
 decide-by-classes-requires : tie.Need-decide-by-classes-requires
 decide-by-classes-requires c κs = search needs
@@ -43,16 +49,18 @@ by-ruling-requires-2 c κs = search needs
 
 returns-5 : tie.Need-returns-5
 returns-5 c =
-    let mode : c .before .before .before .before .before .before .before .before .before .before .before .before .before .args .by-pairs ≡ false = c .before .before .if4 .left in
-    c .by-ruling2 .ensures ∙ judged-row _ _ _ _ _ (c .before .before .before .before .before .before .before .if1 .left) (c .before .before .before .before .before .before .first-above .ensures) (c .before .before .before .before .before .if2 .left) (c .before .before .before .if3 .left) (rw mode (c .before .decide-by-classes .ensures _ _))
+    let n = c .before .before .before .before .before .before .before .before .row-length .ensures in
+    let mode : c .before .before .before .before .before .before .before .before .before .before .before .before .before .before .args .by-pairs ≡ false = c .before .before .if4 .left in
+    c .by-ruling2 .ensures ∙ judged-row _ _ _ _ _ (rw n at (c .before .before .before .before .before .before .before .if1 .left)) (c .before .before .before .before .before .before .first-above-in .ensures) (rw n at (c .before .before .before .before .before .if2 .left)) (c .before .before .before .if3 .left) (rw mode (c .before .decide-by-classes .ensures _ _))
 
 pub decide-row-spec : {M : Type 1} → statement M
 decide-row-spec =
     tie.close
     (tie.spec
+    row-length-requires
     returns
-    first-above-requires
-    cast-t14
+    first-above-in-requires
+    cast-t16
     returns-2
     returns-3
     decide-by-pairs-requires

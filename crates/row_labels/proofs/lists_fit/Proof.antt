@@ -4,10 +4,12 @@ use borrow.Author.Needs.{needs}
 use Rattle.row_labels.proofs.lists_fit.Statement.{statement}
 use Rattle.row_labels.proofs.lists_fit.Tie as tie
 
+row-length-requires : tie.Need-row-length-requires
+row-length-requires c κs = search needs
+
 returns : tie.Need-returns
 unfolding listsFit
-returns c =
-    search needs
+returns c = rw (c .row-length .ensures)
 
 pub lists-fit-spec : {M : Type 1} → statement M
-lists-fit-spec = tie.close (tie.spec returns)
+lists-fit-spec = tie.close (tie.spec row-length-requires returns)

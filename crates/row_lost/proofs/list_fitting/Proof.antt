@@ -2,6 +2,7 @@
 use Rattle.row_labels.proofs.Fitting.{fits-are}
 use Rattle.row.proofs.Cut.{fits-first, lost-stakes, lost-none}
 use Rattle.row_lost.proofs.Listed.{listed-cleared, stored-none}
+use native.Mathlib.Omega.{arith}
 use borrow.Author.Needs.{needs}
 use Rattle.row_lost.proofs.list_fitting.Statement.{statement}
 use Rattle.row_lost.proofs.list_fitting.Tie as tie
@@ -17,7 +18,8 @@ label-of-requires c κs = search needs
 
 list-stakes-requires : tie.Need-list-stakes-requires
 list-stakes-requires c κs =
-    let p = fits-are _ _ _ (fits-first _ _ _ (c .before .before .before .revokes .result) (c .before .before .before .before .fits2 .ensures) (c .before .before .if1 .taken)) in (p .0, p .1, c .before .before .before .before .before .before .before .before .before .pre)
+    let p = fits-are _ _ _ (fits-first _ _ _ (c .before .before .before .revokes .result) (c .before .before .before .before .fits2 .ensures) (c .before .before .if1 .taken)) in
+    (p .0, omega arith, omega arith)
 
 clear-at-requires : tie.Need-clear-at-requires
 clear-at-requires c κs = search needs

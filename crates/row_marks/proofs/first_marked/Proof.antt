@@ -7,6 +7,7 @@ use lib.ListN.{length}
 use denote.Ref.{now}
 use borrow.Author.Tests.{not-true, not-false}
 use borrow.Author.Needs.{needs}
+use Rattle.vocabulary.specs.Place.{rowIn}
 use Rattle.register.specs.Register.{Register, registerBy, pairs}
 use Rattle.row_marks.specs.Marks.{fitted}
 use Rattle.row_marks.proofs.Opponents.{fitted-lengths, first-fitted, first-unfitted}
@@ -19,7 +20,9 @@ asked c =
     registerBy 0 [] (now (a .clients)) true (now (a .firsts)) (now (a .seconds))
 
 abbrev itsRow : tie.Else1 → List ℕ
-itsRow c = now (c .before .before .before .before .before .before .args .row)
+itsRow c =
+    let a = c .before .before .before .before .before .before .args in
+    rowIn (a .matrix) (a .start) (a .clients)
 
 -- Past the first test the lists fit.
 fit : (c : tie.Else1) → fitted (asked c) (itsRow c) ≡ true
@@ -31,9 +34,12 @@ sizes c = fitted-lengths (asked c) (itsRow c) (fit c)
 fits-requires : tie.Need-fits-requires
 fits-requires c κs = search needs
 
+row-length-requires : tie.Need-row-length-requires
+row-length-requires c κs = search needs
+
 returns : tie.Need-returns
 returns c =
-    first-unfitted _ _ _ (sym (c .before .fits2 .ensures) ∙ not-true _ (c .if1 .taken))
+    c .row-length .ensures ∙ first-unfitted _ _ _ (sym (c .before .before .fits2 .ensures) ∙ not-true _ (c .before .if1 .taken))
 
 mark-all-requires : tie.Need-mark-all-requires
 mark-all-requires c κs =
@@ -49,4 +55,4 @@ returns-2 c =
     rw (c .first .ensures) (first-fitted (asked past) _ _ _ (fit past) (c .before .before .mark-all .ensures))
 
 pub first-marked-spec : {M : Type 1} → statement M
-first-marked-spec = tie.close (tie.spec fits-requires returns mark-all-requires first-requires returns-2)
+first-marked-spec = tie.close (tie.spec fits-requires row-length-requires returns mark-all-requires first-requires returns-2)

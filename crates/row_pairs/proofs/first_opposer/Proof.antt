@@ -8,6 +8,7 @@ use lib.ListN.{length-replicate}
 use denote.Ref.{now}
 use borrow.Author.Tests.{not-true, not-false}
 use borrow.Author.Needs.{needs}
+use Rattle.vocabulary.specs.Place.{rowIn}
 use Rattle.register.specs.Register.{Register, registerBy}
 use Rattle.row_marks.specs.Marks.{fitted}
 use Rattle.row_marks.proofs.Opponents.{fitted-lengths, first-unfitted}
@@ -21,7 +22,9 @@ asked c =
     registerBy 0 [] (now (a .clients)) true (now (a .firsts)) (now (a .seconds))
 
 abbrev itsRow : tie.Else1 → List ℕ
-itsRow c = now (c .before .before .before .before .before .before .args .row)
+itsRow c =
+    let a = c .before .before .before .before .before .before .args in
+    rowIn (a .matrix) (a .start) (a .clients)
 
 -- Past the first test the lists fit.
 fit : (c : tie.Else1) → fitted (asked c) (itsRow c) ≡ true
@@ -30,17 +33,24 @@ fit c = sym (c .before .fits2 .ensures) ∙ not-false _ (c .if1 .left)
 fits-requires : tie.Need-fits-requires
 fits-requires c κs = search needs
 
+row-length-requires : tie.Need-row-length-requires
+row-length-requires c κs = search needs
+
 returns : tie.Need-returns
 returns c =
-    first-unfitted _ _ _ (sym (c .before .fits2 .ensures) ∙ not-true _ (c .if1 .taken))
+    c .row-length .ensures ∙ first-unfitted _ _ _ (sym (c .before .before .fits2 .ensures) ∙ not-true _ (c .before .if1 .taken))
 
 count-named-requires : tie.Need-count-named-requires
 count-named-requires c κs = fitted-lengths (asked c) (itsRow c) (fit c) .1
 
+row-length-requires-2 : tie.Need-row-length-requires-2
+row-length-requires-2 c κs = search needs
+
 returns-2 : tie.Need-returns-2
 returns-2 c =
-    let past = c .before .before in
-    first-unnamed (asked past) (itsRow past) _ (fit past) (sym (c .before .count-named .ensures) ∙ c .if2 .taken)
+    let past = c .before .before .before in
+    c .row-length2 .ensures
+    ∙ first-unnamed (asked past) (itsRow past) _ (fit past) (sym (c .before .before .count-named .ensures) ∙ c .before .if2 .taken)
 
 first-marked-requires : tie.Need-first-marked-requires
 first-marked-requires c κs = search needs
@@ -70,8 +80,10 @@ first-opposer-spec =
     tie.close
     (tie.spec
     fits-requires
+    row-length-requires
     returns
     count-named-requires
+    row-length-requires-2
     returns-2
     first-marked-requires
     returns-3

@@ -1,8 +1,11 @@
--- `serve` meets its contract: each decision is carried out as the rules leave it.
+-- `serve` meets its contract: each decision is carried out as the rules leave it, in the row's place.
 use mathlib.Core.Path.{_∙_}
+use lib.ListN.{length}
 use Rattle.register.specs.Register.{registerBy}
 use Rattle.log_writer.specs.Reply.{requestOf, logOf}
-use Rattle.row_request.proofs.Served.{served-granted, served-barred, served-refused}
+use Rattle.vocabulary.specs.Place.{rowAt}
+use Rattle.row_request.proofs.Served.{granted-sound}
+use Rattle.row_request.proofs.InMatrix.{granted-at, barred-at, refused-at}
 use borrow.Author.Needs.{needs}
 use Rattle.row_request.proofs.serve.Statement.{statement}
 use Rattle.row_request.proofs.serve.Tie as tie
@@ -14,7 +17,9 @@ enum-told : tie.Need-enum-told
 enum-told c = search needs
 
 grant-requires : tie.Need-grant-requires
-grant-requires c κs = search needs
+grant-requires c κs =
+    let a = c .before .before .before .before .before .before .before .before .before .before .before .before .args in
+    granted-sound (registerBy 0 (a .classes .now) (a .clients .now) (a .by-pairs) (a .firsts .now) (a .seconds .now)) (rowAt (a .matrix .now) (a .start) (length (a .classes .now))) (requestOf (a .asked)) (logOf (a .log .now) (a .tail)) (rw (c .before .before .enum-told .given .1) at (c .before .before .before .before .decide-row .ensures))
 
 enum-known-decision : tie.Need-enum-known-decision
 enum-known-decision c = search needs
@@ -33,7 +38,8 @@ same-length-2 c = search needs
 
 returns : tie.Need-returns
 returns c =
-    c .before .before .before .before .grant .ensures ∙ served-granted _ _ _ _ (rw (c .before .before .before .before .before .before .before .enum-told .given .1) at (c .before .before .before .before .before .before .before .before .before .decide-row .ensures))
+    let a = c .before .before .before .before .before .before .before .before .before .before .before .before .before .before .before .before .before .args in
+    c .before .before .before .before .grant .ensures ∙ granted-at (registerBy 0 (a .classes .now) (a .clients .now) (a .by-pairs) (a .firsts .now) (a .seconds .now)) (a .matrix .now) (a .start) (requestOf (a .asked)) (logOf (a .log .now) (a .tail)) (rw (c .before .before .before .before .before .before .before .enum-told .given .1) at (c .before .before .before .before .before .before .before .before .before .decide-row .ensures))
 
 same-length-3 : tie.Need-same-length-3
 same-length-3 c = search needs
@@ -43,7 +49,9 @@ same-length-4 c = search needs
 
 returns-2 : tie.Need-returns-2
 returns-2 c =
-    c .before .before .log-refusal .ensures (c .before .before .before .before .before .before .before .before .before .before .before .before .before .before .before .args .row .now) ∙ served-barred _ _ _ _ (c .before .before .before .before .before .decision .given .0 .0) (rw (c .before .before .before .before .before .decision .given .1) at (c .before .before .before .before .before .before .before .decide-row .ensures))
+    let a = c .before .before .before .before .before .before .before .before .before .before .before .before .before .before .before .args in
+    let d = c .before .before .before .before .before .decision .given in
+    c .before .before .log-refusal .ensures (a .matrix .now) ∙ barred-at (registerBy 0 (a .classes .now) (a .clients .now) (a .by-pairs) (a .firsts .now) (a .seconds .now)) (a .matrix .now) (a .start) (requestOf (a .asked)) (logOf (a .log .now) (a .tail)) (d .0 .0) (rw (d .1) at (c .before .before .before .before .before .before .before .decide-row .ensures))
 
 same-length-5 : tie.Need-same-length-5
 same-length-5 c = search needs
@@ -51,8 +59,8 @@ same-length-5 c = search needs
 returns-3 : tie.Need-returns-3
 returns-3 c =
     let a = c .before .before .before .before .before .before .before .before .before .before .before .args in
-    let d = rw (c .before .decision2 .given .1) at (c .before .before .before .decide-row .ensures) in
-    served-refused (registerBy 0 (a .classes .now) (a .clients .now) (a .by-pairs) (a .firsts .now) (a .seconds .now)) (a .row .now) (requestOf (a .asked)) (logOf (a .log .now) (a .tail)) (c .before .decision2 .given .0 .0) d
+    let d = c .before .decision2 .given in
+    refused-at (registerBy 0 (a .classes .now) (a .clients .now) (a .by-pairs) (a .firsts .now) (a .seconds .now)) (a .matrix .now) (a .start) (requestOf (a .asked)) (logOf (a .log .now) (a .tail)) (d .0 .0) (rw (d .1) at (c .before .before .before .decide-row .ensures))
 
 pub serve-spec : {M : Type 1} → statement M
 serve-spec =

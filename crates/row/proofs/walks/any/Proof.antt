@@ -1,30 +1,34 @@
 -- `any` meets its contract: the flag says whether a folder that the walk has passed is of the sort.
-use Rattle.row.specs.Cut.{ofSortAt}
-use Rattle.vocabulary.proofs.Those.{some-those-suc, those-end}
-use Rattle.vocabulary.specs.Those.{those, some}
-use lib.ListN.{length}
-use mathlib.Core.Path.{_≡_, refl, ap, _∙_}
 use Prim.Native.Nat.{_≤_, _-_}
+use mathlib.Core.Path.{_≡_, refl, sym, ap, _∙_}
+use lib.ListN.{length}
+use Rattle.vocabulary.specs.Place.{rowAt, Placed}
+use Rattle.vocabulary.specs.Those.{those, some}
+use Rattle.vocabulary.proofs.Place.{placed-start, placed-next, placed-within, cell-placed}
+use Rattle.vocabulary.proofs.Those.{some-those-suc, those-end}
+use Rattle.row.specs.Cut.{ofSortAt}
 use native.Mathlib.Omega.{arith}
 use borrow.Author.Needs.{needs}
 use Rattle.row.proofs.walks.any.Statement.{statement}
 use Rattle.row.proofs.walks.any.Tie as tie
 
 abbrev Inv-loop : tie.InvT-loop
-Inv-loop sort row classes clients o seen₀ f₀ seen f =
-    (f ≤ length row) × (seen ≡ some (those (ofSortAt sort row classes clients o) f))
+Inv-loop sort matrix start classes clients o seen₀ place₀ f₀ seen place f =
+    (f ≤ length classes) × (Placed (length classes) start f place × (seen ≡ some (those (ofSortAt sort (rowAt matrix start (length classes)) classes clients o) f)))
 
 abbrev μ-loop : tie.MeasureT-loop
-μ-loop sort row classes clients o seen₀ f₀ seen f =
-    length row - f
+μ-loop sort matrix start classes clients o seen₀ place₀ f₀ seen place f =
+    length classes - f
 
 loop-holds : tie.Need-loop-holds Inv-loop μ-loop
 unfolding those
 loop-holds c =
-    (omega arith, refl)
+    (omega arith, (placed-start _ _, refl))
 
 shared-slice-read-cell : tie.Need-shared-slice-read-cell Inv-loop μ-loop
-shared-slice-read-cell c = search needs
+shared-slice-read-cell c =
+    let w = placed-within _ _ _ _ _ _ (sym (c .before .before .before .before .before .before .pre .0)) (c .before .before .loop .inv .1 .0) (c .before .loop-test .taken) in
+    search needs
 
 mul-class : tie.Need-mul-class Inv-loop μ-loop
 mul-class c = search needs
@@ -44,6 +48,11 @@ labelled-requires c κs = search needs
 of-sort-requires : tie.Need-of-sort-requires Inv-loop μ-loop
 of-sort-requires c κs = search needs
 
+add-place : tie.Need-add-place Inv-loop μ-loop
+add-place c =
+    let w = placed-within _ _ _ _ _ _ (sym (c .before .before .before .before .before .before .before .before .before .before .pre .0)) (c .before .before .before .before .before .before .loop .inv .1 .0) (c .before .before .before .before .before .loop-test .taken) in
+    search needs
+
 add-f : tie.Need-add-f Inv-loop μ-loop
 add-f c = search needs
 
@@ -52,11 +61,12 @@ loop-less c = search needs
 
 loop-again : tie.Need-loop-again Inv-loop μ-loop
 loop-again c =
-    (omega arith, rw (some-those-suc, c .of-sort .ensures, c .before .labelled .ensures, c .before .before .before .before .before .before .loop .inv .1))
+    let i = c .before .before .before .before .before .before .loop .inv in
+    (omega arith, (placed-next _ _ _ _ (i .1 .0), rw (some-those-suc, ← i .1 .1, c .of-sort .ensures, c .before .labelled .ensures, cell-placed _ _ _ _ _ (i .1 .0) (c .before .before .before .before .before .loop-test .taken))))
 
 returns : tie.Need-returns Inv-loop μ-loop
 returns c =
-    c .before .loop .inv .1 ∙ ap some (those-end _ _ _ (c .loop-test .left) (c .before .loop .inv .0))
+    c .before .loop .inv .1 .1 ∙ ap some (those-end _ _ _ (c .loop-test .left) (c .before .loop .inv .0) ∙ ap (those _) (c .before .before .before .before .before .pre .0))
 
 pub any-spec : {M : Type 1} → statement M
 any-spec =
@@ -72,6 +82,7 @@ any-spec =
     shared-slice-read-client
     labelled-requires
     of-sort-requires
+    add-place
     add-f
     loop-less
     loop-again

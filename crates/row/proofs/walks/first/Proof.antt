@@ -1,31 +1,35 @@
 -- `first` meets its contract: no folder that the walk has passed is of the sort.
-use Rattle.row.specs.Cut.{ofSortAt}
-use Rattle.vocabulary.proofs.Those.{first-end, those-none, first-found}
-use Rattle.vocabulary.specs.Those.{those}
-use lib.ListN.{length}
-use mathlib.Core.List.{[]}
-use mathlib.Core.Path.{_≡_, refl, sym, _∙_}
 use Prim.Native.Nat.{_≤_, _-_}
+use mathlib.Core.Path.{_≡_, refl, sym, _∙_}
+use mathlib.Core.List.{[]}
+use lib.ListN.{length}
+use Rattle.vocabulary.specs.Place.{rowAt, Placed}
+use Rattle.vocabulary.specs.Those.{those}
+use Rattle.vocabulary.proofs.Place.{placed-start, placed-next, placed-within, cell-placed}
+use Rattle.vocabulary.proofs.Those.{first-end, those-none, first-found}
+use Rattle.row.specs.Cut.{ofSortAt}
 use native.Mathlib.Omega.{arith}
 use borrow.Author.Needs.{needs}
 use Rattle.row.proofs.walks.first.Statement.{statement}
 use Rattle.row.proofs.walks.first.Tie as tie
 
 abbrev Inv-loop : tie.InvT-loop
-Inv-loop sort row classes clients o f₀ f =
-    (f ≤ length row) × (those (ofSortAt sort row classes clients o) f ≡ [])
+Inv-loop sort matrix start classes clients o place₀ f₀ place f =
+    (f ≤ length classes) × (Placed (length classes) start f place × (those (ofSortAt sort (rowAt matrix start (length classes)) classes clients o) f ≡ []))
 
 abbrev μ-loop : tie.MeasureT-loop
-μ-loop sort row classes clients o f₀ f =
-    length row - f
+μ-loop sort matrix start classes clients o place₀ f₀ place f =
+    length classes - f
 
 loop-holds : tie.Need-loop-holds Inv-loop μ-loop
 unfolding those
 loop-holds c =
-    (omega arith, refl)
+    (omega arith, (placed-start _ _, refl))
 
 shared-slice-read-cell : tie.Need-shared-slice-read-cell Inv-loop μ-loop
-shared-slice-read-cell c = search needs
+shared-slice-read-cell c =
+    let w = placed-within _ _ _ _ _ _ (sym (c .before .before .before .before .before .before .pre .0)) (c .before .before .loop .inv .1 .0) (c .before .loop-test .taken) in
+    search needs
 
 mul-class : tie.Need-mul-class Inv-loop μ-loop
 mul-class c = search needs
@@ -47,7 +51,14 @@ of-sort-requires c κs = search needs
 
 returns : tie.Need-returns Inv-loop μ-loop
 returns c =
-    sym (first-found _ _ _ _ (c .before .before .before .before .before .before .before .loop .inv .1) (rw (c .before .before .labelled .ensures) at (sym (c .before .of-sort .ensures) ∙ c .if1 .taken)) (c .before .before .before .before .before .before .loop-test .taken))
+    let i = c .before .before .before .before .before .before .before .loop .inv in
+    let t = c .before .before .before .before .before .before .loop-test .taken in
+    sym (first-found _ _ _ _ (i .1 .1) (rw (c .before .before .labelled .ensures, cell-placed _ _ _ _ _ (i .1 .0) t) at (sym (c .before .of-sort .ensures) ∙ c .if1 .taken)) (rw (← c .before .before .before .before .before .before .before .before .before .before .before .pre .0) t))
+
+add-place : tie.Need-add-place Inv-loop μ-loop
+add-place c =
+    let w = placed-within _ _ _ _ _ _ (sym (c .before .before .before .before .before .before .before .before .before .before .before .pre .0)) (c .before .before .before .before .before .before .before .loop .inv .1 .0) (c .before .before .before .before .before .before .loop-test .taken) in
+    search needs
 
 add-f : tie.Need-add-f Inv-loop μ-loop
 add-f c = search needs
@@ -57,11 +68,13 @@ loop-less c = search needs
 
 loop-again : tie.Need-loop-again Inv-loop μ-loop
 loop-again c =
-    (omega arith, those-none _ _ (c .before .before .before .before .before .before .before .loop .inv .1) (rw (c .before .before .labelled .ensures) at (sym (c .before .of-sort .ensures) ∙ c .if1 .left)))
+    let i = c .before .before .before .before .before .before .before .loop .inv in
+    (omega arith, (placed-next _ _ _ _ (i .1 .0), those-none _ _ (i .1 .1) (rw (c .before .before .labelled .ensures, cell-placed _ _ _ _ _ (i .1 .0) (c .before .before .before .before .before .before .loop-test .taken)) at (sym (c .before .of-sort .ensures) ∙ c .if1 .left))))
 
 returns-2 : tie.Need-returns-2 Inv-loop μ-loop
 returns-2 c =
-    sym (first-end _ _ _ (c .before .loop .inv .1) (c .before .loop .inv .0) (c .loop-test .left))
+    let e = c .before .before .before .before .before .pre .0 in
+    sym (first-end _ _ _ (c .before .loop .inv .1 .1) (rw (← e) (c .before .loop .inv .0)) (rw (← e) (c .loop-test .left)))
 
 pub first-spec : {M : Type 1} → statement M
 first-spec =
@@ -78,6 +91,7 @@ first-spec =
     labelled-requires
     of-sort-requires
     returns
+    add-place
     add-f
     loop-less
     loop-again

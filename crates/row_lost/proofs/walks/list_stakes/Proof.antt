@@ -1,108 +1,42 @@
--- `list_stakes` meets its contract: what is listed so far are the folders at stake that the walk has passed.
-use Prim.Native.Nat.{_≤_, _-_}
-use mathlib.Core.Path.{_≡_, refl}
-use lib.ListN.{length, length-set}
-use Rattle.vocabulary.specs.Those.{those}
-use Rattle.cell_rules.specs.declared.Sort.{Sort}
-use Rattle.row.specs.Cut.{ofSortAt}
-use Rattle.row_lost.specs.Cut.{ListedSoFar}
-use Rattle.row_lost.proofs.Listed.{stored-none, stored-next}
-use native.Mathlib.Omega.{arith}
+-- `list_stakes` meets its contract: where folders are many, the marks list those at stake.
+use Rattle.row_lost.proofs.Marked.{marked-flags, marked-those}
 use borrow.Author.Needs.{needs}
 use Rattle.row_lost.proofs.walks.list_stakes.Statement.{statement}
 use Rattle.row_lost.proofs.walks.list_stakes.Tie as tie
 
-abbrev Inv-loop : tie.InvT-loop
-Inv-loop row classes clients o list₀ n₀ f₀ list n f =
-    (f ≤ length row) × (length list ≡ length list₀) × ((n ≤ f) × ListedSoFar list₀ (those (ofSortAt Sort.AtStake row classes clients o) f) list n)
+list-few-requires : tie.Need-list-few-requires
+list-few-requires c κs = search needs
 
-abbrev μ-loop : tie.MeasureT-loop
-μ-loop row classes clients o list₀ n₀ f₀ list n f =
-    length row - f
-
-loop-holds : tie.Need-loop-holds Inv-loop μ-loop
-unfolding those
-loop-holds c =
-    (omega arith, refl, (omega arith, stored-none _))
-
-shared-slice-read-cell : tie.Need-shared-slice-read-cell Inv-loop μ-loop
-shared-slice-read-cell c = search needs
-
-mul-class : tie.Need-mul-class Inv-loop μ-loop
-mul-class c = search needs
-
-shared-slice-read-class : tie.Need-shared-slice-read-class Inv-loop μ-loop
-shared-slice-read-class c = search needs
-
-mul-client : tie.Need-mul-client Inv-loop μ-loop
-mul-client c = search needs
-
-shared-slice-read-client : tie.Need-shared-slice-read-client Inv-loop μ-loop
-shared-slice-read-client c = search needs
-
-labelled-requires : tie.Need-labelled-requires Inv-loop μ-loop
-labelled-requires c κs = search needs
-
-of-sort-requires : tie.Need-of-sort-requires Inv-loop μ-loop
-of-sort-requires c κs = search needs
-
-cast-list : tie.Need-cast-list Inv-loop μ-loop
-cast-list c = search needs
-
-mul-list : tie.Need-mul-list Inv-loop μ-loop
-mul-list c = search needs
-
-slice-write-list : tie.Need-slice-write-list Inv-loop μ-loop
-slice-write-list c = search needs
-
-one-if-requires : tie.Need-one-if-requires Inv-loop μ-loop
-one-if-requires c κs = search needs
-
-add-n : tie.Need-add-n Inv-loop μ-loop
-add-n c = search needs
-
-add-f : tie.Need-add-f Inv-loop μ-loop
-add-f c = search needs
-
-loop-less : tie.Need-loop-less Inv-loop μ-loop
-loop-less c = search needs
-
-loop-again : tie.Need-loop-again Inv-loop μ-loop
-loop-again c =
-    let b = rw (c .before .before .labelled .ensures) at (c .before .of-sort .ensures) in
-    let a = c .before .before .before .before .before .before .before .before .before .before .before .before .args in
-    let l = c .before .before .before .before .before .before .before .loop in
-    (omega arith, rw length-set (l .inv .1), (omega (arith, c .one-if .ensures .1), rw (c .one-if .ensures .0, b) (stored-next _ (ofSortAt Sort.AtStake (a .row .now) (a .classes .now) (a .clients .now) (a .o)) (l .f) (l .inv .2 .1))))
-
-same-length : tie.Need-same-length Inv-loop μ-loop
+same-length : tie.Need-same-length
 same-length c = search needs
 
-returns : tie.Need-returns Inv-loop μ-loop
-returns c =
-    let e : c .before .loop .f ≡ length (c .before .before .before .before .before .before .args .row .now) = omega arith in
-    rw e at (c .before .loop .inv .2 .1)
+returns : tie.Need-returns
+returns c = search needs
+
+mark-stakes-requires : tie.Need-mark-stakes-requires
+mark-stakes-requires c κs = search needs
+
+list-marked-requires : tie.Need-list-marked-requires
+list-marked-requires c κs =
+    let pre = c .before .before .before .before .before .before .before .before .before .pre in
+    let marked = c .before .before .mark-stakes .ensures in
+    (pre .1, marked .room, marked-flags _ _ _ marked, pre .2)
+
+same-length-2 : tie.Need-same-length-2
+same-length-2 c = search needs
+
+returns-2 : tie.Need-returns-2
+returns-2 c =
+    rw (← c .before .before .before .before .before .before .before .before .before .before .before .before .pre .0 .0, ← marked-those _ _ _ (c .before .before .before .before .before .mark-stakes .ensures)) (c .before .before .list-marked .ensures)
 
 pub list-stakes-spec : {M : Type 1} → statement M
 list-stakes-spec =
     tie.close
     (tie.spec
-    Inv-loop
-    μ-loop
-    loop-holds
-    shared-slice-read-cell
-    mul-class
-    shared-slice-read-class
-    mul-client
-    shared-slice-read-client
-    labelled-requires
-    of-sort-requires
-    cast-list
-    mul-list
-    slice-write-list
-    one-if-requires
-    add-n
-    add-f
-    loop-less
-    loop-again
+    list-few-requires
     same-length
-    returns)
+    returns
+    mark-stakes-requires
+    list-marked-requires
+    same-length-2
+    returns-2)

@@ -1,12 +1,19 @@
--- `find_of` meets its contract: where there is no such folder, the row's length stands for the first.
-use mathlib.Core.Path.{sym, _∙_}
+-- `find_of` meets its contract: where there is no such folder, `to` stands for the first.
+use mathlib.Core.Path.{refl, sym, _∙_}
+use mathlib.Core.List.{[]}
+use native.Mathlib.Omega.{arith}
 use borrow.Author.Needs.{needs}
+use Rattle.vocabulary.specs.Those.{those}
 use Rattle.vocabulary.proofs.Those.{first-absent}
+use Rattle.vocabulary.proofs.Place.{placed-start}
 use Rattle.row_pairs.proofs.groups.find_of.Statement.{statement}
 use Rattle.row_pairs.proofs.groups.find_of.Tie as tie
 
 any-of-requires : tie.Need-any-of-requires
-any-of-requires c κs = search needs
+unfolding those
+any-of-requires c κs =
+    let h = c .before .before .pre in
+    (h .0, omega arith, h .1, refl {a = []}, placed-start _ _)
 
 locate-requires : tie.Need-locate-requires
 locate-requires c κs = search needs

@@ -1,51 +1,34 @@
--- `locate` meets its contract: from `start` on, the first such folder is the same.
+-- `locate` meets its contract: no folder of the blocks that the loop has passed is readable and of one of the four.
 use Prim.Native.Nat.{_≤_, _-_}
-use mathlib.Core.Path.{_≡_, sym, _∙_}
-use native.Mathlib.Nat.{zero-add}
+use mathlib.Core.List.{[]}
+use mathlib.Core.Path.{_≡_, refl, sym, _∙_}
 use native.Mathlib.Omega.{arith}
 use lib.ListN.{length}
 use borrow.Author.Needs.{needs}
-use Rattle.row_pairs.specs.Among.{oneOf, firstWith, firstFrom}
-use Rattle.row_pairs.proofs.Cuts.{with-most, from-end, block-here, block-passed}
+use Rattle.vocabulary.specs.Those.{those}
+use Rattle.vocabulary.specs.Place.{rowAt, Placed}
+use Rattle.vocabulary.proofs.Place.{placed-start, placed-on, rowAt-room}
+use Rattle.vocabulary.proofs.Those.{some-none}
+use Rattle.row_pairs.specs.Among.{oneOf, readableWith}
 use Rattle.row_pairs.proofs.groups.locate.Statement.{statement}
 use Rattle.row_pairs.proofs.groups.locate.Tie as tie
 
 abbrev Inv-loop : tie.InvT-loop
-Inv-loop row clients g start₀ start =
-    (start ≤ length row) × (firstFrom (oneOf g) row clients start ≡ firstWith (oneOf g) row clients)
+Inv-loop matrix start clients g to place₀ f₀ place f =
+    (f ≤ to) × (Placed (length clients) start f place × (those (readableWith (oneOf g) (rowAt matrix start (length clients)) clients) f ≡ []))
 
 abbrev μ-loop : tie.MeasureT-loop
-μ-loop row clients g start₀ start = length row - start
+μ-loop matrix start clients g to place₀ f₀ place f = to - f
 
 loop-holds : tie.Need-loop-holds Inv-loop μ-loop
-loop-holds c = (omega arith, zero-add _)
+unfolding those
+loop-holds c = (omega arith, (placed-start _ _, refl))
 
-add-smaller : tie.Need-add-smaller Inv-loop μ-loop
-add-smaller c = search needs
+sub-loop : tie.Need-sub-loop Inv-loop μ-loop
+sub-loop c = search needs
 
-smaller-requires : tie.Need-smaller-requires Inv-loop μ-loop
-smaller-requires c κs = search needs
-
-sub-block-row : tie.Need-sub-block-row Inv-loop μ-loop
-sub-block-row c = search needs
-
-part-block-row-start : tie.Need-part-block-row-start Inv-loop μ-loop
-part-block-row-start c = search needs
-
-part-block-row-end : tie.Need-part-block-row-end Inv-loop μ-loop
-part-block-row-end c = search needs
-
-mul-block-clients : tie.Need-mul-block-clients Inv-loop μ-loop
-mul-block-clients c = search needs
-
-sub-block-clients : tie.Need-sub-block-clients Inv-loop μ-loop
-sub-block-clients c = search needs
-
-part-block-clients-start : tie.Need-part-block-clients-start Inv-loop μ-loop
-part-block-clients-start c = search needs
-
-part-block-clients-end : tie.Need-part-block-clients-end Inv-loop μ-loop
-part-block-clients-end c = search needs
+add-any-of : tie.Need-add-any-of Inv-loop μ-loop
+add-any-of c = search needs
 
 any-of-requires : tie.Need-any-of-requires Inv-loop μ-loop
 any-of-requires c κs = search needs
@@ -54,36 +37,29 @@ first-of-requires : tie.Need-first-of-requires Inv-loop μ-loop
 first-of-requires c κs = search needs
 
 returns : tie.Need-returns Inv-loop μ-loop
-returns c =
-    let a = c .before .before .before .before .before .before .before .before .before .before .args in
-    let l = c .before .before .before .before .before .before .before .loop in
-    let end = c .before .before .before .before .before .smaller .result in
-    let low : l .start ≤ end = omega arith in
-    let high : end ≤ length (a .row .now) = omega arith in
-    rw (c .first-of .ensures)
-    (block-here (oneOf (a .g)) (a .row .now) (a .clients .now) (l .start) end low high (sym (c .before .before .any-of .ensures) ∙ c .before .if1 .taken) ∙ l .inv .1)
+returns c = search needs
 
-add-result : tie.Need-add-result Inv-loop μ-loop
-add-result c =
-    let a = c .before .before .before .before .before .before .before .before .before .before .args in
-    record { fits = omega (arith, returns c, with-most (oneOf (a .g)) (a .row .now) (a .clients .now)) }
+add-place : tie.Need-add-place Inv-loop μ-loop
+add-place c =
+    let s = c .before .before .before .before .before .before in
+    let room = rowAt-room (s .args .matrix .now) (s .args .start) (length (s .args .clients .now)) (s .pre .0) in
+    omega (arith, room, s .pre .1, c .before .before .before .loop .inv .1 .0 .0)
+
+add-f : tie.Need-add-f Inv-loop μ-loop
+add-f c = search needs
 
 loop-less : tie.Need-loop-less Inv-loop μ-loop
 loop-less c = search needs
 
 loop-again : tie.Need-loop-again Inv-loop μ-loop
 loop-again c =
-    let a = c .before .before .before .before .before .before .before .before .before .args in
-    let l = c .before .before .before .before .before .before .loop in
-    let end = c .before .before .before .before .smaller .result in
-    let low : l .start ≤ end = omega arith in
-    let high : end ≤ length (a .row .now) = omega arith in
-    (high, block-passed (oneOf (a .g)) (a .row .now) (a .clients .now) (l .start) end low high (sym (c .before .any-of .ensures) ∙ c .if1 .left) ∙ l .inv .1)
+    (omega arith, (placed-on _ _ _ _ 32 (c .before .before .before .loop .inv .1 .0), some-none _ (sym (c .before .any-of .ensures) ∙ c .if1 .left)))
+
+first-of-requires-2 : tie.Need-first-of-requires-2 Inv-loop μ-loop
+first-of-requires-2 c κs = search needs
 
 returns-2 : tie.Need-returns-2 Inv-loop μ-loop
-returns-2 c =
-    let a = c .before .before .before .before .args in
-    from-end (oneOf (a .g)) (a .row .now) (a .clients .now) _ (c .loop-test .left) ∙ c .before .loop .inv .1
+returns-2 c = search needs
 
 pub locate-spec : {M : Type 1} → statement M
 locate-spec =
@@ -92,19 +68,14 @@ locate-spec =
     Inv-loop
     μ-loop
     loop-holds
-    add-smaller
-    smaller-requires
-    sub-block-row
-    part-block-row-start
-    part-block-row-end
-    mul-block-clients
-    sub-block-clients
-    part-block-clients-start
-    part-block-clients-end
+    sub-loop
+    add-any-of
     any-of-requires
     first-of-requires
-    add-result
     returns
+    add-place
+    add-f
     loop-less
     loop-again
+    first-of-requires-2
     returns-2)
