@@ -85,56 +85,38 @@ fn one_case(random: &mut Random, house: &Owned) -> Reply {
     same_request(&house.lend(), &mut matrix, ask, &mut log, end, serial)
 }
 
-/// Small houses, in order and not, with everything that can be wrong with a request.
-#[test]
-fn random_requests() {
-    let mut random = Random::new(10);
+/// Houses of these logins, folders and clients, mostly in order, with everything that can be wrong with a request; each answer is met so often.
+fn random_houses(seed: u64, cases: usize, often: usize, size: impl Fn(&mut Random) -> (usize, usize, usize)) {
+    let mut random = Random::new(seed);
     let mut tally = Tally::default();
-    for _ in 0..300_000 {
-        let (logins, folders) = (random.range(1, 4), random.range(1, 10));
-        let clients = random.pick(&[1, 2, 3, 5]);
+    for _ in 0..cases {
+        let (logins, folders, clients) = size(&mut random);
         let mut house = good(&mut random, logins, folders, clients);
         if random.once_in(8) {
             house.damage(&mut random);
         }
         tally.add(number(&one_case(&mut random, &house)));
     }
-    tally.met(&ALL, 300);
+    tally.met(&ALL, often);
 }
 
-/// Houses at and past their bounds.
 #[test]
-fn large_houses() {
-    let mut random = Random::new(11);
-    let mut tally = Tally::default();
-    for _ in 0..2_500 {
-        let (logins, folders) = (random.pick(&[1, 2, 127, 128]), random.pick(&[1, 127, 128, 129, 511, 512]));
-        let clients = random.pick(&[2, 3, 64, 600]);
-        let mut house = good(&mut random, logins, folders, clients);
-        if random.once_in(8) {
-            house.damage(&mut random);
-        }
-        tally.add(number(&one_case(&mut random, &house)));
-    }
-    tally.met(&ALL, 5);
+fn small_houses() {
+    random_houses(10, 300_000, 300, |random| (random.range(1, 4), random.range(1, 10), random.pick(&[1, 2, 3, 5])));
 }
 
-/// Houses of the sizes about which the walks over a row change their way.
+/// Of the sizes about which the walks over a row change their way.
 #[test]
 fn middle_houses() {
-    let mut random = Random::new(19);
-    let mut tally = Tally::default();
-    for _ in 0..60_000 {
-        let sizes = [15, 16, 17, 23, 24, 25, 31, 32, 33, 47, 48, 49, 63, 64, 65, 66, 72];
-        let (logins, folders) = (random.range(1, 4), random.pick(&sizes));
-        let clients = random.pick(&[1, 2, 3, 40]);
-        let mut house = good(&mut random, logins, folders, clients);
-        if random.once_in(8) {
-            house.damage(&mut random);
-        }
-        tally.add(number(&one_case(&mut random, &house)));
-    }
-    tally.met(&ALL, 50);
+    let sizes = [15, 16, 17, 23, 24, 25, 31, 32, 33, 47, 48, 49, 63, 64, 65, 66, 72];
+    random_houses(19, 60_000, 50, |random| (random.range(1, 4), random.pick(&sizes), random.pick(&[1, 2, 3, 40])));
+}
+
+/// At and past their bounds.
+#[test]
+fn large_houses() {
+    let (logins, sizes) = ([1, 2, 127, 128], [1, 127, 128, 129, 511, 512]);
+    random_houses(11, 2_500, 5, |random| (random.pick(&logins), random.pick(&sizes), random.pick(&[2, 3, 64, 600])));
 }
 
 /// One folder in the way, at every place of rows of every small size: of each sort, by classes and by pairs, in the first, a middle and the last row.
