@@ -1,13 +1,11 @@
 -- What the search for refusal 3 answers, case by case, by the first find (the number of folders stands for 'none').
 use Prim.Native.Nat.{ℕ, _≤_, _<_}
-use mathlib.Core.Path.{_≡_, sym, _∙_}
-use mathlib.Core.Bool.{Bool, true, false}
+use mathlib.Core.Path.{_≡_}
+use mathlib.Core.Bool.{true, false}
 use mathlib.Core.List.{[], _∷_}
-use native.Mathlib.Omega.{arith}
-use native.Mathlib.Decide.{decLt}
-use lib.Dec.{leb, eqb, ltb}
+use lib.Dec.{leb, eqb}
 use lib.ListN.{length, getD}
-use borrow.Author.Tests.{leb-true, eqb-true, lt-ltb, le-ltb}
+use borrow.Author.Tests.{leb-true, eqb-true}
 use Rattle.vocabulary.specs.Answer.{answer, judge}
 use Rattle.vocabulary.specs.Those.{those, some}
 use Rattle.vocabulary.proofs.Bools.{both}
@@ -18,14 +16,6 @@ use Rattle.register_search.specs.Search.{searched, searchAnswer}
 -- The first folder that refusal 3 carries, or F.
 abbrev pub firstLater : Register → ℕ
 firstLater r = getD (later r) 0 (folders r)
-
--- A search has found something where its first find is below the bound.
-pub below-some : (p : ℕ → Bool) (n : ℕ) → ltb (getD (those p n) 0 n) n ≡ some (those p n)
-below-some p n =
-    elim (decLt (getD (those p n) 0 n) n) [
-      | yes h ↦ lt-ltb (getD (those p n) 0 n) n h ∙ sym (first-some p n n h .0)
-      | no h ↦ le-ltb (getD (those p n) 0 n) n (omega arith) ∙ sym (first-none p n (omega arith))
-    ]
 
 -- What it tells that the lists are searched.
 pub searched-sizes : (r : Register) → searched r ≡ true → (folders r ≤ 512) × (folders r ≡ length (r .clients))

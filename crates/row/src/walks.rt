@@ -50,7 +50,7 @@ pub(crate) fn any(
 }
 
 // The first folder of the sort looked for, or the row's length. What the walk has passed has none.
-fn first(
+pub(crate) fn first(
     sort: Sort,
     matrix: &[u8],
     start: usize,
@@ -120,8 +120,8 @@ fn least(
     least as usize
 }
 
-// The first folder of the sort looked for, or the row's length. Mostly there is none, and over many folders one look says so; among few it is quicker
-// to seek at once.
+// The first folder of the sort looked for, or the row's length. Among few it is quickest to seek at once; with some more the least is, which has no branch
+// to be foretold. Mostly there is none, and over many folders a look that says so comes first.
 pub(crate) fn find(
     sort: Sort,
     matrix: &[u8],
@@ -133,11 +133,13 @@ pub(crate) fn find(
     requires { ⌜ Alongside (rowIn matrix start classes) (now classes) (now clients) × (length (now classes) ≤ 512) ⌝ }
     ensures { λ r. ⌜ r ≡ firstOf sort (lentRow matrix start classes) (now (classes .entry)) (now (clients .entry)) o ⌝ }
 {
-    if classes.len() < 32 {
-        return first(sort, matrix, start, classes, clients, o);
-    }
-    if any(sort, matrix, start, classes, clients, o) {
+    if 16 <= classes.len() {
+        if 32 <= classes.len() {
+            if !any(sort, matrix, start, classes, clients, o) {
+                return classes.len();
+            }
+        }
         return least(sort, matrix, start, classes, clients, o);
     }
-    classes.len()
+    first(sort, matrix, start, classes, clients, o)
 }

@@ -13,25 +13,25 @@ use Rattle.vocabulary.specs.Those.{those}
 use Rattle.vocabulary.proofs.Those.{those-agree}
 use Rattle.row_lost.specs.Cut.{StakesMarked, Flags, flagged}
 
-pub marked-none : (p : ℕ → Bool) (marks : List ℕ) → length marks ≡ 512 → StakesMarked p 0 marks
-marked-none p marks e =
+pub marked-none : (p : ℕ → Bool) (marks : List ℕ) → StakesMarked p 0 marks
+marked-none p marks =
     record {
-      room = e;
+      room = omega arith;
       told = λ i h. absurd (omega arith);
     }
 
 -- The next number gets its mark.
-pub marked-next : (p : ℕ → Bool) (marks : List ℕ) (n : ℕ) → n < 512 → StakesMarked p n marks → StakesMarked p (n + 1) (set marks n (boolByte (p n)))
+pub marked-next : (p : ℕ → Bool) (marks : List ℕ) (n : ℕ) → n < length marks → StakesMarked p n marks → StakesMarked p (n + 1) (set marks n (boolByte (p n)))
 marked-next p marks n h s =
     record {
-      room = rw length-set (s .room);
+      room = rw length-set (omega arith);
       told = told;
     }
   where
     told : (i : ℕ) → i < n + 1 → getD (set marks n (boolByte (p n))) i 0 ≡ boolByte (p i)
     told i k =
         elim (ℕ-discrete i n) [
-          | yes e ↦ rw e (getD-set-same marks n (boolByte (p n)) 0 (rw (s .room) h))
+          | yes e ↦ rw e (getD-set-same marks n (boolByte (p n)) 0 h)
           | no d ↦ getD-set-other marks n i (boolByte (p n)) 0 d ∙ s .told i (omega arith)
         ]
 

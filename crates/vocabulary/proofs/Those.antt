@@ -136,6 +136,14 @@ first-none p n h = at (those p n) (smallest-holds p n) h
     at [] s h = refl
     at (x ∷ xs) s h = absurd (omega (arith, s refl .0))
 
+-- A search has found something where its first number is below the bound.
+pub below-some : (p : ℕ → Bool) (n : ℕ) → ltb (getD (those p n) 0 n) n ≡ some (those p n)
+below-some p n =
+    elim (decLt (getD (those p n) 0 n) n) [
+      | yes h ↦ lt-ltb (getD (those p n) 0 n) n h ∙ sym (first-some p n n h .0)
+      | no h ↦ le-ltb (getD (those p n) 0 n) n (omega arith) ∙ sym (first-none p n (omega arith))
+    ]
+
 -- Whatever stands for 'none', the first number of a search that found something is the smallest.
 pub first-smallest : (p : ℕ → Bool) (n d : ℕ) → some (those p n) ≡ true → getD (those p n) 0 d ≡ smallest (those p n)
 first-smallest p n d = at (those p n)

@@ -2,7 +2,7 @@
 use mathlib.Core.Path.{sym, _∙_}
 use borrow.Author.Tests.{eqb-true}
 use Rattle.register.specs.Register.{registerOf, differs, earlier}
-use Rattle.register_search.proofs.Search.{below-some}
+use Rattle.vocabulary.proofs.Those.{below-some}
 use Rattle.register_search.proofs.Marks.{same-telling}
 use Rattle.register_search.proofs.Later.{alone, told-step}
 use native.Mathlib.Omega.{arith}

@@ -33,8 +33,8 @@ mul-list c = search needs
 slice-write-list : tie.Need-slice-write-list Inv-loop μ-loop
 slice-write-list c = search needs
 
-element-copy-out-count : tie.Need-element-copy-out-count Inv-loop μ-loop
-element-copy-out-count c = search needs
+shared-slice-read-count : tie.Need-shared-slice-read-count Inv-loop μ-loop
+shared-slice-read-count c = search needs
 
 cast-count : tie.Need-cast-count Inv-loop μ-loop
 cast-count c =
@@ -77,7 +77,7 @@ list-marked-spec =
     cast-list
     mul-list
     slice-write-list
-    element-copy-out-count
+    shared-slice-read-count
     cast-count
     add-count
     add-f
