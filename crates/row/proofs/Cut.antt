@@ -8,12 +8,12 @@ use mathlib.Core.List.{List, [], _∷_}
 use native.Mathlib.Omega.{arith}
 use native.Mathlib.Decide.{ℕ-discrete, decLt}
 use lib.ListN.{length, getD}
-use lib.Dec.{eqb, leb, ltb}
+use lib.Dec.{eqb, leb}
 use borrow.Author.Tests.{eqb-true, eq-eqb, ne-eqb, le-leb, lt-leb, not-false}
 use Rattle.vocabulary.specs.Answer.{Answer, answer, judge}
 use Rattle.vocabulary.specs.Place.{rowAt}
 use Rattle.vocabulary.specs.Those.{those, some, smallest}
-use Rattle.vocabulary.proofs.Those.{first-some, first-none, below-some, those-agree, those-never}
+use Rattle.vocabulary.proofs.Those.{first-some, first-none, those-agree, those-never}
 use Rattle.vocabulary.proofs.Bools.{either, both, true-or-false}
 use Rattle.ids.specs.declared.Label.{Label}
 use Rattle.register.specs.Register.{Register, registerBy, registerOf, folders, clientOf}
@@ -209,11 +209,6 @@ module _ (r : Register) (row : List ℕ) (o kind : ℕ) where
 -- The first of two tests, that lists and folder fit.
 pub fits-first : (r : Register) (row : List ℕ) (o : ℕ) {a : Bool} (b : Bool) → a ≡ fitting r row o → (a && b) ≡ true → fitting r row o ≡ true
 fits-first r row o {a} b fit e = both (fitting r row o) b (rw fit at e) .0
-
--- A folder of the sort is there where the first find is within the row, whose length is that of the classes' list.
-pub found-some : (sort : Sort) (row classes clients : List ℕ) (o : Label) → length classes ≡ length row → {n : ℕ} → n ≡ firstOf sort row classes clients o →
-    ltb n (length classes) ≡ some (allOf sort row classes clients o)
-found-some sort row classes clients o same is = rw (same, is) (below-some _ _)
 
 -- Write rights are lost where lists and folder fit and the kind revokes, as two tests say.
 module _ (r : Register) (row : List ℕ) (o kind : ℕ) {a b : Bool} (fit : a ≡ fitting r row o) (revoking : b ≡ revokes kind) where

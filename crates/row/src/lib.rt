@@ -186,10 +186,7 @@ pub fn any_lost(
 {
     if row_labels::fits(matrix, start, classes, clients, folder) & kinds::revokes(kind) {
         let o = row_labels::label_of(classes, clients, folder);
-        if classes.len() < 16 {
-            return walks::first(Sort::AtStake, matrix, start, classes, clients, o) < classes.len();
-        }
-        return walks::any(Sort::AtStake, matrix, start, classes, clients, o);
+        return walks::exists(Sort::AtStake, matrix, start, classes, clients, o);
     }
     false
 }

@@ -23,14 +23,7 @@ pub(crate) fn folder_no(found: usize) -> FolderNo
 
 // Whether the row has a folder of the sort looked for: what the walk has seen so far. It passes over every folder, without a branch, so
 // that it can go over several at a time.
-pub(crate) fn any(
-    sort: Sort,
-    matrix: &[u8],
-    start: usize,
-    classes: &[u16],
-    clients: &[u16],
-    o: Label,
-) -> bool
+fn any(sort: Sort, matrix: &[u8], start: usize, classes: &[u16], clients: &[u16], o: Label) -> bool
     requires { ⌜ Alongside (rowIn matrix start classes) (now classes) (now clients) ⌝ }
     ensures { λ r. ⌜ r ≡ some (allOf sort (lentRow matrix start classes) (now (classes .entry)) (now (clients .entry)) o) ⌝ }
 {
@@ -50,7 +43,7 @@ pub(crate) fn any(
 }
 
 // The first folder of the sort looked for, or the row's length. What the walk has passed has none.
-pub(crate) fn first(
+fn first(
     sort: Sort,
     matrix: &[u8],
     start: usize,
@@ -120,8 +113,26 @@ fn least(
     least as usize
 }
 
-// The first folder of the sort looked for, or the row's length. Among few it is quickest to seek at once; with some more the least is, which has no branch
-// to be foretold. Mostly there is none, and over many folders a look that says so comes first.
+// Whether the row has a folder of the sort looked for. Among few it is quicker to seek one, as in `find`.
+pub(crate) fn exists(
+    sort: Sort,
+    matrix: &[u8],
+    start: usize,
+    classes: &[u16],
+    clients: &[u16],
+    o: Label,
+) -> bool
+    requires { ⌜ Alongside (rowIn matrix start classes) (now classes) (now clients) ⌝ }
+    ensures { λ r. ⌜ r ≡ some (allOf sort (lentRow matrix start classes) (now (classes .entry)) (now (clients .entry)) o) ⌝ }
+{
+    if classes.len() < 16 {
+        return first(sort, matrix, start, classes, clients, o) < classes.len();
+    }
+    any(sort, matrix, start, classes, clients, o)
+}
+
+// The first folder of the sort looked for, or the row's length. Among few it is quickest to seek it at once. With some more the least is quicker: it has
+// no branch to foretell. Mostly there is none, and over many folders a look that says so comes first.
 pub(crate) fn find(
     sort: Sort,
     matrix: &[u8],

@@ -1,4 +1,4 @@
--- Folders marked in a local array, 1 for one at stake and 0 for another, and listed by their marks.
+-- Folders marked in an array, 1 for one at stake and 0 for another, and listed by their marks.
 use Prim.Native.Nat.{ℕ, _+_, _≤_, _<_}
 use mathlib.Core.Bool.{Bool, true, false, cond}
 use mathlib.Core.List.{List}
@@ -6,7 +6,7 @@ use mathlib.Core.Path.{_≡_, refl, _∙_}
 use native.Mathlib.Decide.{ℕ-discrete}
 use native.Mathlib.Omega.{arith}
 use lib.Dec.{eqb}
-use lib.ListN.{length, getD, set, length-set}
+use lib.ListN.{length, getD, set}
 use lib.Seq.{getD-set-same, getD-set-other}
 use mir.Val.{boolByte}
 use Rattle.vocabulary.specs.Those.{those}
@@ -16,15 +16,13 @@ use Rattle.row_lost.specs.Cut.{StakesMarked, Flags, flagged}
 pub marked-none : (p : ℕ → Bool) (marks : List ℕ) → StakesMarked p 0 marks
 marked-none p marks =
     record {
-      room = omega arith;
       told = λ i h. absurd (omega arith);
     }
 
--- The next number gets its mark.
+-- The next number gets its mark, if there is a place for it.
 pub marked-next : (p : ℕ → Bool) (marks : List ℕ) (n : ℕ) → n < length marks → StakesMarked p n marks → StakesMarked p (n + 1) (set marks n (boolByte (p n)))
 marked-next p marks n h s =
     record {
-      room = rw length-set (omega arith);
       told = told;
     }
   where

@@ -13,9 +13,8 @@ pub record ListedSoFar (array l list : List ℕ) (n : ℕ) : Type 0 where
   pub cleared : set list n 0 ≡ listedAtStart array l .list
   pub counted : n ≡ length l
 
--- The first n numbers are marked in a list that has places for them, 1 for one that passes a test and 0 for one that does not.
+-- The first n numbers are marked in a list, 1 for one that passes a test and 0 for one that does not.
 pub record StakesMarked (p : ℕ → Bool) (n : ℕ) (marks : List ℕ) : Type 0 where
-  pub room : n ≤ length marks
   pub told : (i : ℕ) → i < n → getD marks i 0 ≡ boolByte (p i)
 
 -- The first n marks are 0 or 1; and the mark at a place is 1.

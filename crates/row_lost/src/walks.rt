@@ -1,4 +1,4 @@
-// The walks that list what is lost, each with a running place in the matrix, one more at each folder; and the place after the list.
+// The walk that marks what is lost, with a running place in the matrix, one more at each folder; the list made from the marks; and the place after it.
 use cell_rules::Sort;
 use ids::ClassNo;
 use ids::ClientNo;
@@ -38,7 +38,7 @@ fn mark_stakes(
     }
 }
 
-// Lists the folders that are marked from the start of an array, rising, and says how many. Each folder passed is stored after those listed and counts
+// Lists, from the start of an array, the folders that are marked, rising, and says how many. Each folder passed is stored after those listed and counts
 // by its mark, without a branch; so the place after the list may have a number, which is to be cleared.
 fn list_marked(marks: &[u8], folders: usize, list: &mut [u16]) -> usize
     requires { ⌜ (folders ≤ 512) × (folders ≤ length (now marks)) × Flags (now marks) folders × (folders ≤ length (now list)) ⌝ }
@@ -54,7 +54,7 @@ fn list_marked(marks: &[u8], folders: usize, list: &mut [u16]) -> usize
     count
 }
 
-// Lists the folders at stake by marks that are lent, one for each folder or more.
+// Lists the folders at stake by marks that are lent, at least one for each folder.
 fn list_by(
     matrix: &[u8],
     start: usize,
@@ -71,8 +71,8 @@ fn list_by(
     list_marked(marks, classes.len(), list)
 }
 
-// Lists the folders at stake. They are marked first, many at a time; the loop that lists then looks at a mark alone. The marks are as many as are needed
-// in a small house or in the largest: what is not needed is not emptied either.
+// Lists the folders at stake. They are marked first, many at a time; the loop that lists then looks at a mark alone. In a small house 32 marks do: to
+// empty 512 would cost more than to mark.
 pub(crate) fn list_stakes(
     matrix: &[u8],
     start: usize,

@@ -236,7 +236,7 @@ fn agree(libraries: [Library; 2], input: &Input) {
 }
 
 /// Requests of houses between the smallest and the largest, each with whether the row is put back after it: one that reads, one that takes rights
-/// back, and one that is refused for the last folder.
+/// back, one that is refused for the last folder, and a thousand of all sorts, whose branches are hard to foretell.
 fn sizes() -> Vec<(String, Input, bool)> {
     let of = |folders: usize| {
         let house = || Input::new(128, folders, |folder| folder + 1);
@@ -246,9 +246,13 @@ fn sizes() -> Vec<(String, Input, bool)> {
             (format!("{folders} folders: read, blank row"), house().asking(127, folders / 2, 1), true),
             ("… read, taking a quarter of the rights back".to_owned(), back, true),
             ("… write, refused for the last folder".to_owned(), refused, false),
+            ("… a thousand of all sorts".to_owned(), house().mixed(), false),
         ]
     };
-    [4, 12, 16, 17, 24, 32, 33, 48, 64, 65, 100, 128, 200, 256, 384].into_iter().flat_map(of).collect()
+    [2, 4, 8, 12, 13, 15, 16, 17, 20, 24, 28, 31, 32, 33, 48, 64, 65, 100, 128, 200, 256, 384]
+        .into_iter()
+        .flat_map(of)
+        .collect()
 }
 
 fn main() {

@@ -1,10 +1,7 @@
 -- `any_lost` meets its contract: what is at stake is lost where lists and folder fit and the kind revokes, and nothing elsewhere.
-use Rattle.row.proofs.Cut.{fits-first, lost-stakes, lost-none, found-some}
+use Rattle.row.proofs.Cut.{fits-first, lost-stakes, lost-none}
 use Rattle.row_labels.proofs.Fitting.{fits-are}
-use Rattle.vocabulary.specs.Place.{rowAt}
 use Rattle.vocabulary.specs.Those.{some}
-use Rattle.cell_rules.specs.declared.Sort.the-variants.{AtStake}
-use lib.ListN.{length}
 use mathlib.Core.Path.{sym, ap, _∙_}
 use borrow.Author.Needs.{needs}
 use Rattle.row.proofs.any_lost.Statement.{statement}
@@ -19,39 +16,19 @@ revokes-requires c κs = search needs
 label-of-requires : tie.Need-label-of-requires
 label-of-requires c κs = search needs
 
-first-requires : tie.Need-first-requires
-first-requires c κs =
-    fits-are _ _ _ (fits-first _ _ _ (c .before .before .before .revokes .result) (c .before .before .before .before .fits2 .ensures) (c .before .before .if1 .taken)) .0
+exists-requires : tie.Need-exists-requires
+exists-requires c κs =
+    fits-are _ _ _ (fits-first _ _ _ (c .before .before .revokes .result) (c .before .before .before .fits2 .ensures) (c .before .if1 .taken)) .0
 
 returns : tie.Need-returns
 returns c =
-    let fit = c .before .before .before .before .before .fits2 .ensures in
-    let taken = c .before .before .before .if1 .taken in
-    let beside = fits-are _ _ _ (fits-first _ _ _ (c .before .before .before .before .revokes .result) fit taken) .0 in
-    let a = c .before .before .before .before .before .before .before .before .before .args in
-    found-some AtStake (rowAt (a .matrix .now) (a .start) (length (a .classes .now))) (a .classes .now) (a .clients .now) (c .before .before .label-of .result) (beside .0) (c .first .ensures) ∙ ap some (sym (lost-stakes _ _ _ _ fit (c .before .before .before .before .revokes .ensures) taken _ (c .before .before .label-of .ensures)))
-
-any-requires : tie.Need-any-requires
-any-requires c κs =
-    fits-are _ _ _ (fits-first _ _ _ (c .before .before .before .revokes .result) (c .before .before .before .before .fits2 .ensures) (c .before .before .if1 .taken)) .0
+    c .exists .ensures ∙ ap some (sym (lost-stakes _ _ _ _ (c .before .before .before .before .fits2 .ensures) (c .before .before .before .revokes .ensures) (c .before .before .if1 .taken) _ (c .before .label-of .ensures)))
 
 returns-2 : tie.Need-returns-2
 returns-2 c =
-    c .any .ensures ∙ ap some (sym (lost-stakes _ _ _ _ (c .before .before .before .before .before .fits2 .ensures) (c .before .before .before .before .revokes .ensures) (c .before .before .before .if1 .taken) _ (c .before .before .label-of .ensures)))
-
-returns-3 : tie.Need-returns-3
-returns-3 c =
     ap some (sym (lost-none _ _ _ _ (c .before .before .fits2 .ensures) (c .before .revokes .ensures) (c .if1 .left)))
 
 pub any-lost-spec : {M : Type 1} → statement M
 any-lost-spec =
     tie.close
-    (tie.spec
-    fits-requires
-    revokes-requires
-    label-of-requires
-    first-requires
-    returns
-    any-requires
-    returns-2
-    returns-3)
+    (tie.spec fits-requires revokes-requires label-of-requires exists-requires returns returns-2)

@@ -11,7 +11,7 @@ list-marked-requires : tie.Need-list-marked-requires
 list-marked-requires c κs =
     let pre = c .before .before .before .before .before .before .before .before .before .before .before .pre in
     let marked = c .before .before .before .before .mark-stakes .ensures in
-    (pre .1, marked .room, marked-flags _ _ _ marked, pre .3)
+    (pre .1, search needs, marked-flags _ _ _ marked, pre .3)
 
 same-length : tie.Need-same-length
 same-length c = search needs
