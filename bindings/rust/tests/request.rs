@@ -228,6 +228,20 @@ fn longest_record() {
     }
 }
 
+/// Every serial, of one to three bytes, written in a record between other bytes.
+#[test]
+fn every_serial() {
+    let mut random = Random::new(23);
+    let house = Owned::new(1, &[(1, 1), (1, 2)]);
+    for serial in 0..=u16::MAX {
+        let mut matrix = Guarded::new(&mut random, &[0, 0]);
+        let mut log = Guarded::new(&mut random, &[0xa5; 12]);
+        let ask = Ask { login: 0, folder: 1, kind: 1 };
+        let reply = same_request(&house.lend(), &mut matrix, ask, &mut log, 2, serial);
+        assert_eq!(number(&reply), 0);
+    }
+}
+
 /// What each check comes before: all the faults at once, then one fewer from the top, and so on.
 #[test]
 fn first_fault_speaks() {
