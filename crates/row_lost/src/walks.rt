@@ -71,8 +71,8 @@ fn list_by(
     list_marked(marks, classes.len(), list)
 }
 
-// Lists the folders at stake. They are marked first, many at a time; the loop that lists then looks at a mark alone. In a small house 32 marks do: to
-// empty 512 would cost more than to mark.
+// Lists the folders at stake. They are marked first, many at a time; the loop that lists then looks at a mark alone. In a small house 32 marks do, and no
+// more are emptied.
 pub(crate) fn list_stakes(
     matrix: &[u8],
     start: usize,
