@@ -1,10 +1,11 @@
 -- The log is exact, in both directions.
 use Prim.Native.Nat.{ℕ, _+_, _≤_}
 use mathlib.Core.Path.{_≡_, sym, ap, _∙_}
-use mathlib.Core.Bool.{Bool}
+use mathlib.Core.Bool.{Bool, false}
 use mathlib.Core.List.{List, _++_}
 use lib.ListN.{length, drop}
 use lib.Seq.{slice}
+use Rattle.person_list.specs.PersonList.{badPersons}
 use Rattle.log_bytes.specs.Record.{recordBytes}
 use Rattle.log_records.specs.RecordAt.{entry, entryAt}
 use Rattle.log_records.specs.WellFormed.{WellFormed, Standing}
@@ -13,21 +14,21 @@ use Rattle.policy.specs.Outcome.{Log, appended}
 use Rattle.log_exact.specs.Exact.{LoggedRequest, left, written, recorded, CanBeMade, walked, Yields, LogExact}
 use Rattle.audit_log.proofs.Reader.{list-written, step-writes, step-written, step-yields}
 use Rattle.log_exact.proofs.Appended.{slice-appended, drop-appended, logged-well-formed, logged-room, logged-left}
-use Rattle.log_exact.proofs.Witness.{witness, witness-mode, witness-lent, recorded-witness}
+use Rattle.log_exact.proofs.Witness.{witness, witness-mode, witness-persons, witness-lent, recorded-witness}
 
 module _ (w : LoggedRequest) where
   room : w .log .end + length (recordBytes (recorded w)) ≤ length (w .log .bytes)
-  room = logged-room (w .register) (w .matrix) (w .request) (w .log) (w .is-logged)
+  room = logged-room (w .register) (w .persons) (w .matrix) (w .request) (w .log) (w .is-logged)
 
   appends : left w .log ≡ appended (w .log) (recordBytes (recorded w))
-  appends = logged-left (w .register) (w .matrix) (w .request) (w .log) (w .is-logged)
+  appends = logged-left (w .register) (w .persons) (w .matrix) (w .request) (w .log) (w .is-logged)
 
   -- The bytes that a request appended are its record's.
   written-bytes : written w ≡ recordBytes (recorded w)
   written-bytes = ap (λ (l : Log). slice (w .log .end) (l .end) (l .bytes)) appends ∙ slice-appended (w .log) (recordBytes (recorded w)) room
 
   fits : WellFormed (recorded w)
-  fits = logged-well-formed (w .register) (w .matrix) (w .request) (w .log) (w .is-logged) (w .serial)
+  fits = logged-well-formed (w .register) (w .persons) (w .matrix) (w .request) (w .log) (w .is-logged) (w .serial)
 
   read-back : (log : List ℕ) (place : ℕ) (rest : List ℕ) → drop place log ≡ written w ++ rest → stepAt log place ≡ entry (entryAt place (recorded w))
   read-back log place rest h = step-writes log place (recorded w) rest fits (h ∙ ap (λ (l : List ℕ). l ++ rest) written-bytes)
@@ -40,16 +41,17 @@ module _ (w : LoggedRequest) where
   drop-left = rw written-bytes (ap (λ (l : Log). drop (w .log .end) (l .bytes)) appends ∙ drop-appended (w .log) (recordBytes (recorded w)) room)
 
 -- A record that stands at a place is the witness's.
-yielded : (byPairs : Bool) (log : List ℕ) (place : ℕ) (r : Standing log place) →
-    (w : LoggedRequest) × (w .register .byPairs ≡ byPairs) × CanBeMade w × Yields log place w
-yielded byPairs log place r =
-    let w = witness (r .stored) byPairs (r .well-formed) in
-    let same : recorded w ≡ r .stored = recorded-witness (r .stored) byPairs (r .well-formed) in
+yielded : (byPairs : Bool) (ps : List ℕ) → badPersons 128 ps ≡ false → (log : List ℕ) (place : ℕ) (r : Standing log place) →
+    (w : LoggedRequest) × (w .register .byPairs ≡ byPairs) × (w .persons ≡ ps) × CanBeMade w × Yields log place w
+yielded byPairs ps pass log place r =
+    let w = witness (r .stored) byPairs ps pass (r .well-formed) in
+    let same : recorded w ≡ r .stored = recorded-witness (r .stored) byPairs ps pass (r .well-formed) in
     let bytes : written w ≡ recordBytes (r .stored) = written-bytes w ∙ ap recordBytes same in
     let stands : drop place log ≡ written w ++ drop (place + length (written w)) log = r .bytes ∙ ap (λ (l : List ℕ). l ++ drop (place + length l) log) (sym bytes) in (
       w,
-      witness-mode (r .stored) byPairs (r .well-formed),
-      witness-lent (r .stored) byPairs (r .well-formed),
+      witness-mode (r .stored) byPairs ps pass (r .well-formed),
+      witness-persons (r .stored) byPairs ps pass (r .well-formed),
+      witness-lent (r .stored) byPairs ps pass (r .well-formed),
       record {
         fields = step-yields log place r ∙ ap (λ x. entry (entryAt place x)) (sym same);
         list = list-back w log place (drop (place + length (written w)) log) stands;
@@ -68,5 +70,5 @@ log-exact =
       lists = list-back;
       reads-new = read-left;
       new-end = λ w. ap (placeAfter (w .log .end)) (read-left w) ∙ sym (ap (λ (l : Log). l .end) (appends w));
-      accepts = λ byPairs log place e bs h. yielded byPairs log place (step-written log place e bs h);
+      accepts = λ byPairs ps pass log place e bs h. yielded byPairs ps pass log place (step-written log place e bs h);
     }

@@ -1,6 +1,6 @@
 -- For every well-formed record a request that writes it, by classes or by pairs: 128 logins and 512 folders, of which the record's has class 1 and
 -- client 1 and all others client 2, of class 1 for answer 20 and of class 2 otherwise; the pair of 1 and 2 for answer 20, and none otherwise; and
--- rights on just the listed folders, to read for 20 and 21 and to write for 0 and 22.
+-- rights of every person on just the listed folders, to read for 20 and 21 and to write for 0 and 22. So any person list will do.
 use Prim.Native.Nat.{ℕ, zero, suc, _+_, _-_, _*_, _%_, _≤_, _<_}
 use native.Mathlib.Omega.{arith}
 use mathlib.Core.Path.{_≡_, refl, sym, ap, _∙_}
@@ -19,6 +19,8 @@ use Rattle.vocabulary.proofs.Those.{those-agree, those-never}
 use Rattle.vocabulary.proofs.Judge.{Passed, judge-append, judge-passed}
 use Rattle.vocabulary.proofs.Order.{lt-or-le}
 use Rattle.vocabulary.proofs.Bools.{neither, eqb-self, true-or-false, cond-same}
+use Rattle.person_list.specs.PersonList.{personOf, badPersons}
+use Rattle.person_list.proofs.PersonList.{person-none, person-below, list-whole}
 use Rattle.register.specs.Register.{Register, registerBy, folders, classOf, clientOf, exactlyOne, loneZero, differs, earlier, later, badPairs, registerChecks, Accepted}
 use Rattle.policy.specs.Conflict.{paired, inConflict}
 use Rattle.log_fields.specs.Rule.{canAnswer, badCount}
@@ -137,7 +139,7 @@ cond-most : {x y most : ℕ} (b : Bool) → x ≤ most → y ≤ most → cond b
 cond-most true p q = p
 cond-most false p q = q
 
-module _ (e : Record) (byPairs : Bool) where
+module _ (e : Record) (byPairs : Bool) (ps : List ℕ) (pass : badPersons 128 ps ≡ false) where
   -- A read right has to be asked of the listed folders.
   abbrev reading : Bool
   reading = eqb (e .answer) 20 || eqb (e .answer) 21
@@ -247,30 +249,37 @@ module _ (e : Record) (byPairs : Bool) where
   -- ---- the row shows the listed folders
 
   abbrev row : List ℕ
-  row = rowOf register matrix (e .login)
+  row = rowOf register matrix (personOf ps (e .login))
 
   module _ (w : WellFormed e) where
+    -- The login's person is one of the house's.
+    known : personOf ps (e .login) < 128
+    known = person-below 128 ps pass (e .login) (omega (arith, w .login))
+
     cell-at : (f : ℕ) → f < 512 → cell row f ≡ cellAt f
     cell-at f h =
-        let s = e .login in
+        let s = personOf ps (e .login) in
         let own : (s * 512 + f) % 512 ≡ f = omega arith in
-        rw (folders-512, getD-take 512 (drop (s * 512) matrix) f 0 h, getD-drop (s * 512) matrix f 0, getD-listOf 65536 (λ i. cellAt (i % 512)) (s * 512 + f) (omega (arith, w .login)), own)
+        rw (folders-512, getD-take 512 (drop (s * 512) matrix) f 0 h, getD-drop (s * 512) matrix f 0, getD-listOf 65536 (λ i. cellAt (i % 512)) (s * 512 + f) (omega (arith, known)), own)
 
-    request-passed : Passed (requestChecks register matrix request log)
+    request-passed : Passed (requestChecks register ps matrix request log)
     unfolding requestChecks
     request-passed = (
       rw (folders-512, length-listOf 65536 (λ i. cellAt (i % 512))),
       (
         lt-leb 128 (e .login) (omega (arith, w .login)),
         (
-          rw folders-512 (lt-leb 512 (e .folder) (omega (arith, w .folder))),
+          pass,
           (
-            rw (le-leb 1 (e .kind) (w .kind .0), le-leb (e .kind) 4 (w .kind .1)),
+            rw folders-512 (lt-leb 512 (e .folder) (omega (arith, w .folder))),
             (
-              rw (those-never (λ f. ltb 3 (cell row f)) (folders register) (λ f h. small f (rw folders-512 at h))),
+              rw (le-leb 1 (e .kind) (w .kind .0), le-leb (e .kind) 4 (w .kind .1)),
               (
-                le-ltb (length (log .bytes)) 0 (omega arith),
-                tt,
+                rw (those-never (λ f. ltb 3 (cell row f)) (folders register) (λ f h. small f (rw folders-512 at h))),
+                (
+                  le-ltb (length (log .bytes)) 0 (omega arith),
+                  tt,
+                ),
               ),
             ),
           ),
@@ -383,27 +392,32 @@ module _ (e : Record) (byPairs : Bool) where
 
     -- ---- so the request writes the record
 
-    decided : decision register matrix request log ≡ answer (e .answer) (e .list)
+    decided : decision register ps matrix request log ≡ answer (e .answer) (e .list)
     unfolding decision
     decided =
         rw (
           judge-append,
           judge-passed (registerChecks register) _ register-passed,
-          judge-passed (requestChecks register matrix request log) _ request-passed,
+          judge-passed (requestChecks register ps matrix request log) _ request-passed,
         )
         wall-right
 
     told : isLogged (answer (e .answer) (e .list)) ≡ true
     told = can-logged (e .kind) (e .answer) (w .answer)
 
-    answered : outcome register matrix request log .answer ≡ answer (e .answer) (e .list)
+    answered : outcome register ps matrix request log .answer ≡ answer (e .answer) (e .list)
     unfolding outcome logged
     answered = rw (decided, told, le-ltb (length (log .bytes) - 0) (length (recordBytes e)) (rw length-replicate (omega arith)))
+
+    person-most : (s : ℕ) → (s < 128) ⊎ (128 ≤ s) → personOf ps s ≤ 65535
+    person-most s (inl h) = omega (arith, person-below 128 ps pass s h)
+    person-most s (inr h) = rw (person-none ps s (rw (list-whole 128 ps pass) h)) (omega arith)
 
     pub witness : LoggedRequest
     witness =
         record {
           register = register;
+          persons = ps;
           matrix = matrix;
           request = request;
           log = log;
@@ -416,6 +430,10 @@ module _ (e : Record) (byPairs : Bool) where
     unfolding witness
     witness-mode = refl
 
+    pub witness-persons : witness .persons ≡ ps
+    unfolding witness
+    witness-persons = refl
+
     pub witness-lent : CanBeMade witness
     unfolding witness
     witness-lent =
@@ -424,6 +442,7 @@ module _ (e : Record) (byPairs : Bool) where
           clients = listOf-most 512 65535 clientAt (λ f. cond-most (eqb f (e .folder)) (omega arith) (omega arith));
           firsts = paired-most 1 (omega arith);
           seconds = paired-most 2 (omega arith);
+          persons = λ s. person-most s (lt-or-le s 128);
           matrix = λ i. omega (arith, listOf-most 65536 2 (λ k. cellAt (k % 512)) (λ k. cond-most (member (k % 512) (e .list)) (cond-most reading (omega arith) (omega arith)) (omega arith)) i);
           log = λ i. rw (getD-zeros (length (recordBytes e)) i) (omega arith);
         }

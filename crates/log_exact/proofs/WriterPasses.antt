@@ -60,14 +60,14 @@ checked-chain log (e ∷ es) fuel place seen last serial enough within h c t =
 -- ---- a session writes a chain
 
 -- A request that was not logged leaves the log.
-pub unlogged-left : (r : Register) (m : List ℕ) (q : Request) (log : Log) → isLogged (outcome r m q log .answer) ≡ false → outcome r m q log .log ≡ log
+pub unlogged-left : (r : Register) (ps m : List ℕ) (q : Request) (log : Log) → isLogged (outcome r ps m q log .answer) ≡ false → outcome r ps m q log .log ≡ log
 unfolding outcome logged tooLong
-unlogged-left r m q log l = go (true-or-false (isLogged (decision r m q log))) (true-or-false (tooLong r m q log))
+unlogged-left r ps m q log l = go (true-or-false (isLogged (decision r ps m q log))) (true-or-false (tooLong r ps m q log))
   where
-    go : (isLogged (decision r m q log) ≡ true) ⊎ (isLogged (decision r m q log) ≡ false) → (tooLong r m q log ≡ true) ⊎ (tooLong r m q log ≡ false) →
-        outcome r m q log .log ≡ log
-    go (inr f) g = ap (λ x. x .log) (outcome-unlogged r m q log f)
-    go (inl f) (inl g) = ap (λ x. x .log) (outcome-long r m q log f g)
+    go : (isLogged (decision r ps m q log) ≡ true) ⊎ (isLogged (decision r ps m q log) ≡ false) → (tooLong r ps m q log ≡ true) ⊎ (tooLong r ps m q log ≡ false) →
+        outcome r ps m q log .log ≡ log
+    go (inr f) g = ap (λ x. x .log) (outcome-unlogged r ps m q log f)
+    go (inl f) (inl g) = ap (λ x. x .log) (outcome-long r ps m q log f g)
     go (inl f) (inr g) = absurd (false≢true (sym l ∙ rw (f, g) f))
 
 -- What a session has appended to a log.
@@ -77,38 +77,38 @@ record Grown (log : Log) (s : Session) : Type 0 where
   chained : Chained (log .serial) entries
   many : records (s .lines) ≡ length entries
 
-session-grows : (r : Register) (m : List ℕ) (log : Log) (qs : List Request) → log .serial ≤ 65535 → Grown log (session r m log qs)
+session-grows : (r : Register) (ps m : List ℕ) (log : Log) (qs : List Request) → log .serial ≤ 65535 → Grown log (session r ps m log qs)
 unfolding session bytesOf
-session-grows r m log [] h =
+session-grows r ps m log [] h =
     record {
       entries = [];
       content = sym (append-nil (take (log .end) (log .bytes)));
       chained = tt;
       many = refl;
     }
-session-grows r m log (q ∷ qs) h =
-    go (true-or-false (isLogged (outcome r m q log .answer))) (session-grows r (outcome r m q log .matrix) (outcome r m q log .log) qs)
+session-grows r ps m log (q ∷ qs) h =
+    go (true-or-false (isLogged (outcome r ps m q log .answer))) (session-grows r ps (outcome r ps m q log .matrix) (outcome r ps m q log .log) qs)
   where
     x : Outcome
-    x = outcome r m q log
+    x = outcome r ps m q log
 
     more : Session
-    more = session r (x .matrix) (x .log) qs
+    more = session r ps (x .matrix) (x .log) qs
 
     new : Record
     new = recordOf q (log .serial) (x .answer)
 
-    longer : isLogged (x .answer) ≡ true → x .log .serial ≡ following 65536 (log .serial) → Grown (x .log) more → Grown log (session r m log (q ∷ qs))
+    longer : isLogged (x .answer) ≡ true → x .log .serial ≡ following 65536 (log .serial) → Grown (x .log) more → Grown log (session r ps m log (q ∷ qs))
     longer l serial g =
-        let here = ap (λ (k : Log). take (k .end) (k .bytes)) (logged-left r m q log l) ∙ take-appended log (recordBytes new) (logged-room r m q log l) in
+        let here = ap (λ (k : Log). take (k .end) (k .bytes)) (logged-left r ps m q log l) ∙ take-appended log (recordBytes new) (logged-room r ps m q log l) in
         record {
           entries = new ∷ g .entries;
           content = g .content ∙ rw here (append-assoc (take (log .end) (log .bytes)) (recordBytes new) (bytesOf (g .entries)));
-          chained = (refl, logged-well-formed r m q log l h, rw serial at (g .chained));
+          chained = (refl, logged-well-formed r ps m q log l h, rw serial at (g .chained));
           many = rw l (ap suc (g .many));
         }
 
-    same : isLogged (x .answer) ≡ false → x .log ≡ log → Grown (x .log) more → Grown log (session r m log (q ∷ qs))
+    same : isLogged (x .answer) ≡ false → x .log ≡ log → Grown (x .log) more → Grown log (session r ps m log (q ∷ qs))
     same l left g =
         record {
           entries = g .entries;
@@ -117,18 +117,18 @@ session-grows r m log (q ∷ qs) h =
           many = rw l (g .many);
         }
 
-    go : (isLogged (x .answer) ≡ true) ⊎ (isLogged (x .answer) ≡ false) → (x .log .serial ≤ 65535 → Grown (x .log) more) → Grown log (session r m log (q ∷ qs))
+    go : (isLogged (x .answer) ≡ true) ⊎ (isLogged (x .answer) ≡ false) → (x .log .serial ≤ 65535 → Grown (x .log) more) → Grown log (session r ps m log (q ∷ qs))
     go (inl l) rest =
-        let serial : x .log .serial ≡ following 65536 (log .serial) = ap (λ (k : Log). k .serial) (logged-left r m q log l) in
+        let serial : x .log .serial ≡ following 65536 (log .serial) = ap (λ (k : Log). k .serial) (logged-left r ps m q log l) in
         longer l serial (rest (rw serial (omega arith)))
-    go (inr l) rest = let left = unlogged-left r m q log l in same l left (rest (rw left h))
+    go (inr l) rest = let left = unlogged-left r ps m q log l in same l left (rest (rw left h))
 
 pub writer-passes : WriterPasses
 unfolding checked
-writer-passes r m buffer serial h qs =
+writer-passes r ps m buffer serial h qs =
     let log = emptyLog buffer serial in
-    let s = session r m log qs in
-    let g = session-grows r m log qs h in
+    let s = session r ps m log qs in
+    let g = session-grows r ps m log qs h in
     rw (g .many)
     (checked-chain (take (s .log .end) (s .log .bytes)) (g .entries) (length (take (s .log .end) (s .log .bytes))) 0 0 0 serial
     (omega arith) (omega arith) (g .content) (g .chained) refl

@@ -1,46 +1,50 @@
 -- The log is exact: the reader accepts the records that the writer can write, no other bytes, and yields the same fields. The records
--- 'are meant over all registers and rows, blank start or not' (document 01, 'The log'), registers by classes and by pairs (document 02, C-12).
+-- 'are meant over all registers and rows, blank start or not' (document 01, 'The log'), registers by classes and by pairs (document 02, C-12), and over
+-- every person list (C-14).
 use Prim.Native.Nat.{ℕ, _+_, _≤_}
 use mathlib.Core.Path.{_≡_}
-use mathlib.Core.Bool.{Bool, true}
+use mathlib.Core.Bool.{Bool, true, false}
 use mathlib.Core.List.{List, _++_}
 use lib.ListN.{length, drop}
 use lib.Seq.{slice}
 use Rattle.varint.specs.Bytes.{Bytes}
+use Rattle.person_list.specs.PersonList.{personOf, badPersons}
 use Rattle.register.specs.Register.{Register, Accepted, classOf, clientOf, firstAt, secondAt}
 use Rattle.log_bytes.specs.Record.{Record}
 use Rattle.log_records.specs.RecordAt.{Entry, entry, entryAt}
 use Rattle.audit_log.specs.Reader.{listFrom, stepAt, placeAfter}
 use Rattle.policy.specs.Outcome.{Request, Log, Outcome, isLogged, recordOf, outcome}
 
--- A request that the writer has logged: to an accepted register, in either mode, on any matrix and log, with a serial of 16 bits.
+-- A request that the writer has logged: to an accepted register, in either mode, with any person list, on any matrix and log, with a serial of 16 bits.
 pub record LoggedRequest : Type 0 where
   pub register : Register
+  pub persons : List ℕ
   pub matrix : List ℕ
   pub request : Request
   pub log : Log
   pub accepted : Accepted register
   pub serial : log .serial ≤ 65535
-  pub is-logged : isLogged (outcome register matrix request log .answer) ≡ true
+  pub is-logged : isLogged (outcome register persons matrix request log .answer) ≡ true
 
 -- What it left.
 abbrev pub left : LoggedRequest → Outcome
-left w = outcome (w .register) (w .matrix) (w .request) (w .log)
+left w = outcome (w .register) (w .persons) (w .matrix) (w .request) (w .log)
 
 -- The very bytes that it appended: those from the log's old end to its new end.
 abbrev pub written : LoggedRequest → List ℕ
 written w = slice (w .log .end) (left w .log .end) (left w .log .bytes)
 
--- What was recorded: the request, its serial and its answer.
+-- What was recorded: the request, with its login, its serial and its answer.
 abbrev pub recorded : LoggedRequest → Record
 recorded w = recordOf (w .request) (w .log .serial) (left w .answer)
 
--- A request that can be made: its register's labels and the clients of its pairs have 16 bits, its matrix and its log hold bytes.
+-- A request that can be made: its register's labels, the clients of its pairs and its persons have 16 bits, its matrix and its log hold bytes.
 pub record CanBeMade (w : LoggedRequest) : Type 0 where
   pub classes : (f : ℕ) → classOf (w .register) f ≤ 65535
   pub clients : (f : ℕ) → clientOf (w .register) f ≤ 65535
   pub firsts : (i : ℕ) → firstAt (w .register) i ≤ 65535
   pub seconds : (i : ℕ) → secondAt (w .register) i ≤ 65535
+  pub persons : (login : ℕ) → personOf (w .persons) login ≤ 65535
   pub matrix : Bytes (w .matrix)
   pub log : Bytes (w .log .bytes)
 
@@ -66,6 +70,7 @@ pub record LogExact : Type 0 where
   pub reads-new : (w : LoggedRequest) → stepAt (left w .log .bytes) (w .log .end) ≡ entry (entryAt (w .log .end) (recorded w))
   -- The place after it is the log's new end.
   pub new-end : (w : LoggedRequest) → placeAfter (w .log .end) (stepAt (left w .log .bytes) (w .log .end)) ≡ left w .log .end
-  -- Whatever a step accepts in a list of bytes, some request wrote that can be made, to a register by classes and also to one by pairs.
-  pub accepts : (byPairs : Bool) (log : List ℕ) (place : ℕ) (e : Entry) → Bytes log → stepAt log place ≡ entry e →
-      (w : LoggedRequest) × (w .register .byPairs ≡ byPairs) × CanBeMade w × Yields log place w
+  -- Whatever a step accepts in a list of bytes, some request wrote that can be made, to a register by classes and also to one by pairs, and with every
+  -- person list of 128 logins that 10 lets pass.
+  pub accepts : (byPairs : Bool) (persons : List ℕ) → badPersons 128 persons ≡ false → (log : List ℕ) (place : ℕ) (e : Entry) → Bytes log →
+      stepAt log place ≡ entry e → (w : LoggedRequest) × (w .register .byPairs ≡ byPairs) × (w .persons ≡ persons) × CanBeMade w × Yields log place w

@@ -24,10 +24,10 @@ emptyLog buffer serial =
       serial = serial;
     }
 
--- The buffer up to the log's end passes the check, with the number of records that it holds: of any register, any matrix, any buffer,
--- any first serial of 16 bits and any list of requests, with matrix, end and serial handed on.
+-- The buffer up to the log's end passes the check, with the number of records that it holds: of any register, any person list, any
+-- matrix, any buffer, any first serial of 16 bits and any list of requests, with matrix, end and serial handed on.
 abbrev pub WriterPasses : Type 0
 WriterPasses =
-    (r : Register) (matrix buffer : List ℕ) (serial : ℕ) → serial ≤ 65535 → (requests : List Request) →
-    let s : Session = session r matrix (emptyLog buffer serial) requests in
+    (r : Register) (persons matrix buffer : List ℕ) (serial : ℕ) → serial ≤ 65535 → (requests : List Request) →
+    let s : Session = session r persons matrix (emptyLog buffer serial) requests in
     checked (take (s .log .end) (s .log .bytes)) ≡ answer 0 (records (s .lines) ∷ [])

@@ -9,16 +9,18 @@ use lib.Dec.{eqb, leb}
 use borrow.Author.Tests.{eqb-true, not-false, leb-false}
 use Rattle.vocabulary.specs.Answer.{Answer, answer}
 use Rattle.vocabulary.proofs.Judge.{Passed, passed-append}
-use Rattle.vocabulary.proofs.Bools.{not-both, true-or-false, neither}
+use Rattle.vocabulary.proofs.Bools.{not-both, true-or-false}
+use Rattle.person_list.specs.PersonList.{personOf}
+use Rattle.person_list.proofs.PersonList.{person-below}
 use Rattle.register.specs.Register.{Register, folders, clientOf, registerChecks, Accepted}
 use Rattle.policy.specs.Rules.{rowOf, withRow, cell, canRead, canWrite, reads, writes, rival, foreign, atStake, lost, rowAfter}
 use Rattle.policy.specs.Outcome.{Request, Log, outcome, requestChecks, wallChecks, wallAnswer, byWall, isLogged, matrixAfter}
 use Rattle.policy.specs.Wall.{Rights, Needful, Conflict, wallOf, joined, afterGrant}
-use Rattle.policy.specs.History.{Step, ask, make, State, blank, rightsAfter, next, run}
+use Rattle.policy.specs.History.{Step, ask, make, State, blank, rightsAfter, byPerson, next, run}
 use Rattle.policy.specs.Demand3.{Shows, Demand3}
 use Rattle.policy.proofs.Conflict.{tells, lawful, conflict-of, conflict-told}
 use Rattle.policy.proofs.Wall.{Clean, Contained, Grantable, unbroken, used-kept, more-kept, grant-clean, joined-read, joined-write, asked-read, asked-write, meets, strays}
-use Rattle.policy.proofs.Outcome.{met, Decided, outcome-cases}
+use Rattle.policy.proofs.Outcome.{met, not-granted, Decided, outcome-cases}
 use Rattle.policy.proofs.Rules.{kind-asks, rival-found, foreign-found, stake-found, rival-read, rival-conflict, foreign-read, foreign-unsanitised, foreign-other, stake-write, stake-other, stake-unsanitised, no-rivals, no-foreigners, stake-lost, wall-granted, InTheWay, in-the-way}
 use Rattle.policy.proofs.Shown.{blank-shown, shown-read, shown-write, read-known, write-known, grant-length, grant-cells}
 
@@ -47,9 +49,9 @@ blank-kept r =
 
 -- ---- a request that the wall answered, met in a state that is kept
 
-module _ (r : Register) (ok : Accepted r) (σ : State) (kept : Kept r σ) (q : Request) (log : Log) (d : Decided r (σ .matrix) q log) where
+module _ (r : Register) (ok : Accepted r) (ps : List ℕ) (σ : State) (kept : Kept r σ) (q : Request) (log : Log) (d : Decided r ps (σ .matrix) q log) where
   abbrev s : ℕ
-  s = q .login
+  s = personOf ps (q .login)
 
   abbrev o : ℕ
   o = q .folder
@@ -57,20 +59,20 @@ module _ (r : Register) (ok : Accepted r) (σ : State) (kept : Kept r σ) (q : R
   abbrev row : List ℕ
   row = rowOf r (σ .matrix) s
 
-  early : Passed (requestChecks r (σ .matrix) q log)
-  early = passed-append (registerChecks r) (requestChecks r (σ .matrix) q log) (d .passed) .1
+  early : Passed (requestChecks r ps (σ .matrix) q log)
+  early = passed-append (registerChecks r) (requestChecks r ps (σ .matrix) q log) (d .passed) .1
 
   known : s < r .logins
   unfolding requestChecks
-  known = leb-false (r .logins) s (early .1 .0)
+  known = person-below (r .logins) ps (early .1 .1 .0) (q .login) (leb-false (r .logins) (q .login) (early .1 .0))
 
   here : o < folders r
   unfolding requestChecks
-  here = leb-false (folders r) o (early .1 .1 .0)
+  here = leb-false (folders r) o (early .1 .1 .1 .0)
 
   kind-known : (leb 1 (q .kind) && leb (q .kind) 4) ≡ true
   unfolding requestChecks
-  kind-known = not-false (leb 1 (q .kind) && leb (q .kind) 4) (early .1 .1 .1 .0)
+  kind-known = not-false (leb 1 (q .kind) && leb (q .kind) 4) (early .1 .1 .1 .1 .0)
 
   pub readable : (f : ℕ) → σ .rights .read s f ≡ true → canRead (cell row f) ≡ true
   readable f e = shown-read r σ (kept .shown) s f ∙ e
@@ -186,28 +188,28 @@ module _ (r : Register) (ok : Accepted r) (σ : State) (kept : Kept r σ) (q : R
         }
 
   -- A request that the wall answered keeps the state.
-  decided-kept : Kept r (next r σ (ask q log))
+  decided-kept : Kept r (next r ps σ (ask q log))
   unfolding next
-  decided-kept = rw (d .answered, d .left) (by-number (true-or-false (eqb (met r (σ .matrix) q log .number) 0)))
+  decided-kept = rw (d .answered, d .left) (by-number (true-or-false (eqb (met r ps (σ .matrix) q log .number) 0)))
     where
-      by-number : (eqb (met r (σ .matrix) q log .number) 0 ≡ true) ⊎ (eqb (met r (σ .matrix) q log .number) 0 ≡ false) →
+      by-number : (eqb (met r ps (σ .matrix) q log .number) 0 ≡ true) ⊎ (eqb (met r ps (σ .matrix) q log .number) 0 ≡ false) →
           Kept r
           (record {
-            matrix = matrixAfter r (σ .matrix) q (met r (σ .matrix) q log);
-            rights = rightsAfter (σ .rights) q (met r (σ .matrix) q log);
+            matrix = matrixAfter r s (σ .matrix) q (met r ps (σ .matrix) q log);
+            rights = rightsAfter (σ .rights) s q (met r ps (σ .matrix) q log);
             held = σ .held;
           })
       by-number (inr e) = rw e kept
       by-number (inl e) =
-          let w = wall-granted r row o (q .kind) (eqb-true (met r (σ .matrix) q log .number) 0 e) in
+          let w = wall-granted r row o (q .kind) (eqb-true (met r ps (σ .matrix) q log .number) 0 e) in
           rw (w .1) (granted-kept (w .0))
 
 -- ---- histories
 
 -- Every step keeps the state.
-next-kept : (r : Register) → Accepted r → (σ : State) → Kept r σ → (x : Step) → Kept r (next r σ x)
+next-kept : (r : Register) → Accepted r → (ps : List ℕ) (σ : State) → Kept r σ → (x : Step) → Kept r (next r ps σ x)
 unfolding next
-next-kept r ok σ kept (make u) =
+next-kept r ok ps σ kept (make u) =
     record {
       shown =
           record {
@@ -215,43 +217,40 @@ next-kept r ok σ kept (make u) =
             cells = kept .shown .cells;
           };
       clean = kept .clean;
-      held = used-kept (wallOf r) (σ .rights) (σ .held) u (kept .clean) (kept .held);
+      held = used-kept (wallOf r) (σ .rights) (σ .held) (byPerson ps u) (kept .clean) (kept .held);
     }
-next-kept r ok σ kept (ask q log) =
+next-kept r ok ps σ kept (ask q log) =
     ⊎-elim
-    (decided-kept r ok σ kept q log)
-    (λ n. rw (n .1, not-granted (outcome r (σ .matrix) q log .answer) (n .0)) kept)
-    (outcome-cases r (σ .matrix) q log)
-  where
-    not-granted : (a : Answer) → isLogged a ≡ false → eqb (a .number) 0 ≡ false
-    not-granted a e = neither (eqb (a .number) 0) (byWall a) e .0
+    (decided-kept r ok ps σ kept q log)
+    (λ n. rw (n .1, not-granted (outcome r ps (σ .matrix) q log .answer) (n .0)) kept)
+    (outcome-cases r ps (σ .matrix) q log)
 
-run-kept : (r : Register) → Accepted r → (σ : State) → Kept r σ → (xs : List Step) → Kept r (run r σ xs)
+run-kept : (r : Register) → Accepted r → (ps : List ℕ) (σ : State) → Kept r σ → (xs : List Step) → Kept r (run r ps σ xs)
 unfolding run
-run-kept r ok σ kept [] = kept
-run-kept r ok σ kept (x ∷ xs) = run-kept r ok (next r σ x) (next-kept r ok σ kept x) xs
+run-kept r ok ps σ kept [] = kept
+run-kept r ok ps σ kept (x ∷ xs) = run-kept r ok ps (next r ps σ x) (next-kept r ok ps σ kept x) xs
 
 -- A refusal by the wall, in any state that is kept, is needful.
-refused-needful : (r : Register) → Accepted r → (σ : State) → Kept r σ → (q : Request) (log : Log) →
-    byWall (outcome r (σ .matrix) q log .answer) ≡ true → Needful (wallOf r) (σ .rights) (σ .held) (q .login) (q .folder) (q .kind)
-refused-needful r ok σ kept q log e =
+refused-needful : (r : Register) → Accepted r → (ps : List ℕ) (σ : State) → Kept r σ → (q : Request) (log : Log) →
+    byWall (outcome r ps (σ .matrix) q log .answer) ≡ true → Needful (wallOf r) (σ .rights) (σ .held) (personOf ps (q .login)) (q .folder) (q .kind)
+refused-needful r ok ps σ kept q log e =
     ⊎-elim
-    (λ d. refusal-needful r ok σ kept q log d (rw (d .answered) at e))
-    (λ n. not-both (by-logged (outcome r (σ .matrix) q log .answer) e) (n .0))
-    (outcome-cases r (σ .matrix) q log)
+    (λ d. refusal-needful r ok ps σ kept q log d (rw (d .answered) at e))
+    (λ n. not-both (by-logged (outcome r ps (σ .matrix) q log .answer) e) (n .0))
+    (outcome-cases r ps (σ .matrix) q log)
   where
     by-logged : (a : Answer) → byWall a ≡ true → isLogged a ≡ true
     by-logged a e = rw e (or-true (eqb (a .number) 0))
 
 -- What every list of steps from a blank matrix keeps.
-pub kept-after : (r : Register) → Accepted r → (steps : List Step) → Kept r (run r (blank r) steps)
-kept-after r ok steps = run-kept r ok (blank r) (blank-kept r) steps
+pub kept-after : (r : Register) → Accepted r → (ps : List ℕ) (steps : List Step) → Kept r (run r ps (blank r) steps)
+kept-after r ok ps steps = run-kept r ok ps (blank r) (blank-kept r) steps
 
 pub demand3 : Demand3
-demand3 r ok steps =
-    let σ = kept-after r ok in
+demand3 r ok ps steps =
+    let σ = kept-after r ok ps in
     record {
       unbroken = unbroken (wallOf r) _ _ (σ steps .clean) (σ steps .held);
       shown = σ steps .shown;
-      needful = λ before rest q log e. refused-needful r ok (run r (blank r) before) (σ before) q log;
+      needful = λ before rest q log e. refused-needful r ok ps (run r ps (blank r) before) (σ before) q log;
     }

@@ -11,3 +11,4 @@ pub mod Unread
 pub mod Modes
 pub mod Written
 pub mod Session
+pub mod Persons

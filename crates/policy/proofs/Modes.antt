@@ -10,6 +10,7 @@ use Rattle.vocabulary.specs.Answer.{judge}
 use Rattle.vocabulary.proofs.Those.{those-agree, those-never}
 use Rattle.vocabulary.proofs.Judge.{Passed, judge-append, judge-passed, judge-either}
 use Rattle.vocabulary.proofs.Bools.{not-both, true-or-false}
+use Rattle.person_list.specs.PersonList.{personOf}
 use Rattle.register.specs.Register.{Register, folders, clientOf, earlier, later, badPair, badPairs, registerChecks, Accepted}
 use Rattle.policy.specs.Conflict.{oneClass, paired, inConflict}
 use Rattle.policy.specs.Rules.{rowOf, cell, canRead, rivals, foreigners, stakes, lost, rowAfter}
@@ -81,19 +82,19 @@ module _ (r : Register) (ok : Accepted r) (mode : r .byPairs ≡ false) (firsts 
     unfolding wallAnswer wallChecks foreigners stakes lost
     wall-same = rw rivals-same
 
-  module _ (m : List ℕ) (q : Request) (log : Log) where
-    decision-same : decision p m q log ≡ decision r m q log
+  module _ (ps m : List ℕ) (q : Request) (log : Log) where
+    decision-same : decision p ps m q log ≡ decision r ps m q log
     unfolding decision requestChecks
     decision-same =
         rw (judge-append (registerChecks p), judge-append (registerChecks r), judge-passed (registerChecks p) _ pass, judge-passed (registerChecks r) _ (passed r ok))
         (⊎-elim
         (λ e. e)
-        (λ a. ap (judge (requestChecks r m q log)) (wall-same (rowOf r m (q .login)) (q .folder) (q .kind) (leb-false (folders r) (q .folder) (a .1 .1 .0))))
-        (judge-either (requestChecks r m q log) (wallAnswer p (rowOf r m (q .login)) (q .folder) (q .kind)) (wallAnswer r (rowOf r m (q .login)) (q .folder) (q .kind))))
+        (λ a. ap (judge (requestChecks r ps m q log)) (wall-same (rowOf r m (personOf ps (q .login))) (q .folder) (q .kind) (leb-false (folders r) (q .folder) (a .1 .1 .1 .0))))
+        (judge-either (requestChecks r ps m q log) (wallAnswer p (rowOf r m (personOf ps (q .login))) (q .folder) (q .kind)) (wallAnswer r (rowOf r m (personOf ps (q .login))) (q .folder) (q .kind))))
 
-    outcome-same : outcome p m q log ≡ outcome r m q log
+    outcome-same : outcome p ps m q log ≡ outcome r ps m q log
     unfolding outcome rowAfter
     outcome-same = rw decision-same
 
 pub same-by-pairs : SameByPairs
-same-by-pairs r ok mode firsts seconds w m q log = outcome-same r ok mode firsts seconds w m q log
+same-by-pairs r ok mode firsts seconds w ps m q log = outcome-same r ok mode firsts seconds w ps m q log

@@ -3,6 +3,7 @@ use mathlib.Core.Path.{refl}
 use Rattle.policy.specs.Session.{Table, session}
 use Rattle.policy.specs.Outcome.{outcome, logged, decision, wallAnswer, wallChecks, requestChecks}
 use Rattle.policy.specs.Rules.{rivals, foreigners, stakes, lost, rowAfter}
+use Rattle.person_list.specs.PersonList.{badPersons, ownNumbers}
 use Rattle.register.specs.Register.{registerChecks, earlier, later}
 use Rattle.vocabulary.specs.Answer.{judge}
 use Rattle.vocabulary.specs.Those.{those}
@@ -11,7 +12,7 @@ use Rattle.log_bytes.specs.Record.{recordBytes}
 use Rattle.varint.specs.Groups.{groupsBy, groups, groupsAll}
 
 pub table : Table
-unfolding session outcome logged decision wallAnswer wallChecks requestChecks rivals foreigners stakes lost rowAfter registerChecks earlier later judge those each recordBytes groupsBy groups groupsAll
+unfolding session ownNumbers badPersons outcome logged decision wallAnswer wallChecks requestChecks rivals foreigners stakes lost rowAfter registerChecks earlier later judge those each recordBytes groupsBy groups groupsAll
 table =
     record {
       lines = refl;

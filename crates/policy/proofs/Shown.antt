@@ -102,7 +102,7 @@ module _ (r : Register) (σ : State) (shown : Shows r σ) where
     cell-outside f h =
         rw (← shown-read s f, ← shown-write s f, cell-out r (σ .matrix) s f h, ne-eqb f o (omega arith), and-false (eqb s s))
 
-    -- Another login's rights stay.
+    -- Another person's rights stay.
     cell-other : (t f : ℕ) → (t ≡ s → ⊥) → cellStanding (σ .rights) t f ≡ cellStanding after t f
     cell-other t f d = rw (ne-eqb t s d, or-false (σ .rights .read t f), or-false, and-true)
 

@@ -18,17 +18,17 @@ pub record Lawful (w : Wall) : Type 0 where
   pub symmetric : (c d : ℕ) → w .conflict c d → w .conflict d c
   pub real : (c d : ℕ) → w .conflict c d → c ≡ 0 → ⊥
 
--- Rights under which no use breaks the wall: what a login may read is free of conflict, and where it may write a folder, every unsanitised
+-- Rights under which no use breaks the wall: what a person may read is free of conflict, and where it may write a folder, every unsanitised
 -- folder that it may read has that folder's client.
 pub record Clean (w : Wall) (k : Rights) : Type 0 where
   pub apart : (s f g : ℕ) → k .read s f ≡ true → k .read s g ≡ true → w .conflict (w .own f) (w .own g) → ⊥
   pub confined : (s o f : ℕ) → k .write s o ≡ true → k .read s f ≡ true → (w .own f ≡ 0 → ⊥) → w .own f ≡ w .own o
 
--- What is held keeps to the rights: a folder holds just its own client, and a login only clients of folders that it may read.
+-- What is held keeps to the rights: a folder holds just its own client, and a person only clients of folders that it may read.
 pub record Contained (w : Wall) (k : Rights) (h : Held) : Type 0 where
   pub own-only : (f c : ℕ) → h .folder f c → Own w f c
   pub own-held : (f c : ℕ) → Own w f c → h .folder f c
-  pub from-read : (s c : ℕ) → h .login s c → (f : ℕ) × (k .read s f ≡ true) × Own w f c
+  pub from-read : (s c : ℕ) → h .person s c → (f : ℕ) × (k .read s f ≡ true) × Own w f c
 
 -- ---- safety
 
@@ -37,9 +37,9 @@ unbroken w k h clean kept = ⊎-elim two strayed
   where
     two : TwoHeld w h → ⊥
     two t =
-        let a = kept .from-read (t .login) (t .one) (t .holds-one) in
-        let b = kept .from-read (t .login) (t .other) (t .holds-other) in
-        clean .apart (t .login) (a .0) (b .0) (a .1) (b .1) (rw (a .2 .0, b .2 .0) at (t .in-conflict))
+        let a = kept .from-read (t .person) (t .one) (t .holds-one) in
+        let b = kept .from-read (t .person) (t .other) (t .holds-other) in
+        clean .apart (t .person) (a .0) (b .0) (a .1) (b .1) (rw (a .2 .0, b .2 .0) at (t .in-conflict))
 
     strayed : Strayed w h → ⊥
     strayed t = t .not-own (kept .own-only (t .folder) (t .client) (t .holds))
@@ -84,7 +84,7 @@ pub record Grantable (w : Wall) (k : Rights) (s o kind : ℕ) (list : List ℕ) 
 
 -- What an asked right says.
 record Asked (s o t f : ℕ) (right : Bool) : Type 0 where
-  login : t ≡ s
+  person : t ≡ s
   folder : f ≡ o
   given : right ≡ true
 
@@ -93,7 +93,7 @@ asked-true s o t f right e =
     let a = both (eqb t s && eqb f o) right e in
     let b = both (eqb t s) (eqb f o) (a .0) in
     record {
-      login = eqb-true t s (b .0);
+      person = eqb-true t s (b .0);
       folder = eqb-true f o (b .1);
       given = a .1;
     }
@@ -132,9 +132,9 @@ grant-clean w k s o kind list lawful clean may =
     apart : (t f g : ℕ) → (k .read t f ≡ true) ⊎ Asked s o t f (reads kind) → (k .read t g ≡ true) ⊎ Asked s o t g (reads kind) →
         w .conflict (w .own f) (w .own g) → ⊥
     apart t f g (inl a) (inl b) c = clean .apart t f g a b c
-    apart t f g (inl a) (inr b) c = may .no-rival (b .given) f (rw (b .login) at a) (rw (b .folder) at c)
+    apart t f g (inl a) (inr b) c = may .no-rival (b .given) f (rw (b .person) at a) (rw (b .folder) at c)
     apart t f g (inr a) (inl b) c =
-        may .no-rival (a .given) g (rw (a .login) at b) (rw (a .folder) at (lawful .symmetric (w .own f) (w .own g) c))
+        may .no-rival (a .given) g (rw (a .person) at b) (rw (a .folder) at (lawful .symmetric (w .own f) (w .own g) c))
     apart t f g (inr a) (inr b) c = lawful .irreflexive (w .own o) (rw (a .folder, b .folder) at c)
 
     confined : (t f g : ℕ) → Left k s t f list ⊎ Asked s o t f (writes kind) → (k .read t g ≡ true) ⊎ Asked s o t g (reads kind) →
@@ -142,8 +142,8 @@ grant-clean w k s o kind list lawful clean may =
     confined t f g (inl a) (inl b) z = clean .confined t f g (a .stood) b z
     confined t f g (inl a) (inr b) z =
         rw (b .folder)
-        (sym (may .none-left (b .given) (rw (b .folder) at z) f (rw (b .login) at (a .stood)) (a .unlisted (b .login))))
-    confined t f g (inr a) (inl b) z = rw (a .folder) (may .no-foreign (a .given) g (rw (a .login) at b) z)
+        (sym (may .none-left (b .given) (rw (b .folder) at z) f (rw (b .person) at (a .stood)) (a .unlisted (b .person))))
+    confined t f g (inr a) (inl b) z = rw (a .folder) (may .no-foreign (a .given) g (rw (a .person) at b) z)
     confined t f g (inr a) (inr b) z = rw (a .folder, b .folder)
 
 -- ---- needful refusals
@@ -161,7 +161,7 @@ pub asked-write : (k : Rights) (s o kind : ℕ) → writes kind ≡ true → joi
 asked-write k s o kind e = rw (eqb-self s, eqb-self o, e, or-true)
 
 module _ (w : Wall) (k : Rights) (h : Held) (s : ℕ) (own-held : (f c : ℕ) → Own w f c → h .folder f c) where
-  -- A login that may read two folders whose clients are in conflict can break the wall.
+  -- A person who may read two folders whose clients are in conflict can break the wall.
   pub meets : Lawful w → (f g : ℕ) → k .read s f ≡ true → k .read s g ≡ true → w .conflict (w .own f) (w .own g) → Breaks w k h s
   unfolding used
   meets lawful f g a b c =
@@ -174,7 +174,7 @@ module _ (w : Wall) (k : Rights) (h : Held) (s : ℕ) (own-held : (f c : ℕ) �
               b,
               inl
                   (record {
-                    login = s;
+                    person = s;
                     one = w .own f;
                     other = w .own g;
                     holds-one = inl (inr (refl, a, own-held f (w .own f) (refl, lawful .real (w .own f) (w .own g) c)));
@@ -184,7 +184,7 @@ module _ (w : Wall) (k : Rights) (h : Held) (s : ℕ) (own-held : (f c : ℕ) �
             );
       }
 
-  -- A login that may read a folder of one client and write a folder of another, or a sanitised one, can break the wall.
+  -- A person who may read a folder of one client and write a folder of another, or a sanitised one, can break the wall.
   pub strays : (f g : ℕ) → k .read s f ≡ true → k .write s g ≡ true → (w .own f ≡ 0 → ⊥) → (w .own f ≡ w .own g → ⊥) → Breaks w k h s
   unfolding used
   strays f g a b z d =

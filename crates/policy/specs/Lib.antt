@@ -11,3 +11,4 @@ pub mod Demand3
 pub mod Papers
 pub mod Session
 pub mod Modes
+pub mod Persons

@@ -7,6 +7,7 @@ use mathlib.Core.List.{List, [], _∷_, _++_, map}
 use lib.ListN.{length, getD, replicate}
 use lib.Dec.{eqb}
 use Rattle.vocabulary.specs.Those.{those, some}
+use Rattle.person_list.specs.PersonList.{ownNumbers}
 use Rattle.register.specs.Register.{Register, registerBy, folders, clientOf, Accepted}
 use Rattle.policy.specs.Conflict.{oneClass, paired}
 use Rattle.register.specs.Claims.{inClasses}
@@ -22,10 +23,10 @@ withClasses r classes = registerBy (r .logins) classes (r .clients) (r .byPairs)
 pub record Unread : Type 0 where
   -- By classes the pairs play no part, malformed or not.
   pub pairs : (r : Register) → r .byPairs ≡ false →
-      (matrix : List ℕ) (q : Request) (log : Log) → outcome r matrix q log ≡ outcome (inClasses r) matrix q log
+      (persons matrix : List ℕ) (q : Request) (log : Log) → outcome r persons matrix q log ≡ outcome (inClasses r) persons matrix q log
   -- By pairs the classes play no part beyond refusals 1 to 3.
   pub classes : (r : Register) (classes : List ℕ) → r .byPairs ≡ true → length classes ≡ folders r → Accepted r → Accepted (withClasses r classes) →
-      (matrix : List ℕ) (q : Request) (log : Log) → outcome r matrix q log ≡ outcome (withClasses r classes) matrix q log
+      (persons matrix : List ℕ) (q : Request) (log : Log) → outcome r persons matrix q log ≡ outcome (withClasses r classes) persons matrix q log
 
 -- 'Two readers may each conflict with one author, not with each other': folder 0 is the author's, client 7, folders 1 and 2 are the readers', 8 and
 -- 9, all of one class. Either reader's folder may be read beside the other's, and the author's beside neither.
@@ -34,7 +35,7 @@ readersRegister = registerBy 1 (1 ∷ 1 ∷ 1 ∷ []) (7 ∷ 8 ∷ 9 ∷ []) tru
 
 abbrev pub TwoReaders : Type 0
 TwoReaders =
-    session readersRegister (replicate 3 0) newLog (request 1 0 1 ∷ request 1 0 2 ∷ request 1 0 0 ∷ []) .lines
+    session readersRegister (ownNumbers 1) (replicate 3 0) newLog (request 1 0 1 ∷ request 1 0 2 ∷ request 1 0 0 ∷ []) .lines
     ≡ serialLine 0 0 [] ∷ serialLine 1 0 [] ∷ serialLine 2 20 (1 ∷ []) ∷ []
 
 -- ---- a register by classes, written out
@@ -65,7 +66,7 @@ pub record WrittenOut (r : Register) (firsts seconds : List ℕ) : Type 0 where
 abbrev pub SameByPairs : Type 0
 SameByPairs =
     (r : Register) → Accepted r → r .byPairs ≡ false → (firsts seconds : List ℕ) → WrittenOut r firsts seconds →
-    (matrix : List ℕ) (q : Request) (log : Log) → outcome (inPairs r firsts seconds) matrix q log ≡ outcome r matrix q log
+    (persons matrix : List ℕ) (q : Request) (log : Log) → outcome (inPairs r firsts seconds) persons matrix q log ≡ outcome r persons matrix q log
 
 -- ---- each pair once
 

@@ -1,10 +1,12 @@
 -- The 1989 paper's theorems 1, 2 and 4 about the histories of demand 3: corollaries, so that a reader of the paper finds them; in terms of conflict,
--- for both modes (document 02, C-12), and by classes, as the paper has them. Access is a read right here: write rights may be gathered over many
+-- for both modes (document 02, C-12), and by classes, as the paper has them. The paper's subject is the user: theorems 1 and 2 speak of what a person
+-- may read, by whichever of that person's logins it was asked for, and theorem 4 of what all persons together do (C-14). Access is a read right here: write rights may be gathered over many
 -- clients, even in conflict, while nothing unsanitised has been read.
 use Prim.Native.Nat.{ℕ}
 use mathlib.Core.Path.{_≡_}
 use mathlib.Core.Bool.{true, false}
 use mathlib.Core.List.{List}
+use Rattle.person_list.specs.PersonList.{personOf}
 use Rattle.register.specs.Register.{Register, Accepted, classOf, clientOf}
 use Rattle.policy.specs.Conflict.{inConflict}
 use Rattle.policy.specs.Outcome.{Request, Log, outcome}
@@ -12,43 +14,43 @@ use Rattle.policy.specs.Wall.{Own, wallOf}
 use Rattle.policy.specs.History.{Step, blank, run}
 
 -- Theorem 1: 'Once a subject has accessed an object the only other objects accessible by that subject lie within the same company
--- dataset or within a different conflict of interest class.' A request for a folder whose client is in conflict with that of one that s may read
--- is never granted.
+-- dataset or within a different conflict of interest class.' A request for a folder whose client is in conflict with that of one that the person
+-- may read is never granted, to none of that person's logins.
 abbrev pub Theorem1 : Type 0
 Theorem1 =
-    (r : Register) → Accepted r → (steps : List Step) (f : ℕ) (q : Request) (log : Log) →
-    run r (blank r) steps .rights .read (q .login) f ≡ true →
+    (r : Register) → Accepted r → (persons : List ℕ) (steps : List Step) (f : ℕ) (q : Request) (log : Log) →
+    run r persons (blank r) steps .rights .read (personOf persons (q .login)) f ≡ true →
     inConflict r f (q .folder) ≡ true →
-    outcome r (run r (blank r) steps .matrix) q log .answer .number ≡ 0 → ⊥
+    outcome r persons (run r persons (blank r) steps .matrix) q log .answer .number ≡ 0 → ⊥
 
--- By classes: a request for a folder of the class of one that s may read, and of another client.
+-- By classes: a request for a folder of the class of one that the person may read, and of another client.
 abbrev pub Theorem1ByClasses : Type 0
 Theorem1ByClasses =
-    (r : Register) → Accepted r → r .byPairs ≡ false → (steps : List Step) (f : ℕ) (q : Request) (log : Log) →
-    run r (blank r) steps .rights .read (q .login) f ≡ true →
+    (r : Register) → Accepted r → r .byPairs ≡ false → (persons : List ℕ) (steps : List Step) (f : ℕ) (q : Request) (log : Log) →
+    run r persons (blank r) steps .rights .read (personOf persons (q .login)) f ≡ true →
     classOf r f ≡ classOf r (q .folder) →
     (clientOf r f ≡ clientOf r (q .folder) → ⊥) →
-    outcome r (run r (blank r) steps .matrix) q log .answer .number ≡ 0 → ⊥
+    outcome r persons (run r persons (blank r) steps .matrix) q log .answer .number ≡ 0 → ⊥
 
--- Theorem 2: 'A subject can at most have access to one company dataset in each conflict of interest class.' No two folders that s may read are of
--- clients in conflict.
+-- Theorem 2: 'A subject can at most have access to one company dataset in each conflict of interest class.' No two folders that person s
+-- may read are of clients in conflict.
 abbrev pub Theorem2 : Type 0
 Theorem2 =
-    (r : Register) → Accepted r → (steps : List Step) (s f g : ℕ) →
-    run r (blank r) steps .rights .read s f ≡ true →
-    run r (blank r) steps .rights .read s g ≡ true →
+    (r : Register) → Accepted r → (persons : List ℕ) (steps : List Step) (s f g : ℕ) →
+    run r persons (blank r) steps .rights .read s f ≡ true →
+    run r persons (blank r) steps .rights .read s g ≡ true →
     inConflict r f g ≡ false
 
 -- By classes: two such folders of one class are of one client.
 abbrev pub Theorem2ByClasses : Type 0
 Theorem2ByClasses =
-    (r : Register) → Accepted r → r .byPairs ≡ false → (steps : List Step) (s f g : ℕ) →
-    run r (blank r) steps .rights .read s f ≡ true →
-    run r (blank r) steps .rights .read s g ≡ true →
+    (r : Register) → Accepted r → r .byPairs ≡ false → (persons : List ℕ) (steps : List Step) (s f g : ℕ) →
+    run r persons (blank r) steps .rights .read s f ≡ true →
+    run r persons (blank r) steps .rights .read s g ≡ true →
     classOf r f ≡ classOf r g → clientOf r f ≡ clientOf r g
 
 -- Theorem 4: 'The flow of unsanitized information is confined to its own company dataset.' Whatever client a folder holds is its own, in either mode.
 abbrev pub Theorem4 : Type 0
 Theorem4 =
-    (r : Register) → Accepted r → (steps : List Step) (f c : ℕ) →
-    run r (blank r) steps .held .folder f c → Own (wallOf r) f c
+    (r : Register) → Accepted r → (persons : List ℕ) (steps : List Step) (f c : ℕ) →
+    run r persons (blank r) steps .held .folder f c → Own (wallOf r) f c

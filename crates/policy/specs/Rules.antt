@@ -1,4 +1,5 @@
--- The matrix and the four kinds of request (document 01, 'The matrix' and 'The four kinds of request'; document 02, C-12, for a rival).
+-- The matrix and the four kinds of request (document 01, 'The matrix' and 'The four kinds of request'; document 02, C-12, for a rival, and
+-- C-14, for a person in a login's place).
 use Prim.Native.Nat.{ℕ, _+_, _*_, _%_}
 use mathlib.Core.Bool.{Bool, cond, not, _&&_, _||_}
 use mathlib.Core.List.{List, _++_}
@@ -9,13 +10,13 @@ use Rattle.vocabulary.specs.Each.{each}
 use Rattle.register.specs.Register.{Register, folders, clientOf, sanitised}
 use Rattle.policy.specs.Conflict.{inConflict}
 
--- ---- the matrix: P times F bytes, login by login
+-- ---- the matrix: P times F bytes, 'one row per person, still P rows'
 
--- The row of login s: its F cells, in folder order.
+-- The row of person s: its F cells, in folder order.
 abbrev pub rowOf : Register → List ℕ → ℕ → List ℕ
 rowOf r matrix s = take (folders r) (drop (s * folders r) matrix)
 
--- The matrix with another row for login s.
+-- The matrix with another row for person s.
 abbrev pub withRow : Register → List ℕ → ℕ → List ℕ → List ℕ
 withRow r matrix s row = take (s * folders r) matrix ++ (row ++ drop (folders r) (drop (s * folders r) matrix))
 
@@ -32,7 +33,7 @@ canWrite c = leb 2 c
 abbrev pub cellFor : Bool → Bool → ℕ
 cellFor read write = cond read 1 0 + cond write 2 0
 
--- ---- the four kinds: o is the folder asked for, row is that of the login that asks
+-- ---- the four kinds: o is the folder asked for, s the person of the login that asks, row that person's
 
 -- Kinds 1 read, 2 careful read and 4 read and write enter a read right.
 abbrev pub reads : ℕ → Bool

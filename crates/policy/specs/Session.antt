@@ -1,9 +1,11 @@
--- The table L0 to L11 with its 'end' row (document 01, 'The desk program'), as a claim about the definitions.
+-- The table L0 to L11 with its 'end' row (document 01, 'The desk program'), as a claim about the definitions, with each login its own
+-- person.
 use Prim.Native.Nat.{ℕ}
 use mathlib.Core.Path.{_≡_}
 use mathlib.Core.Bool.{cond}
 use mathlib.Core.List.{List, [], _∷_}
 use lib.ListN.{replicate, take, drop}
+use Rattle.person_list.specs.PersonList.{ownNumbers}
 use Rattle.register.specs.Register.{Register, registerOf}
 use Rattle.policy.specs.Outcome.{Request, Log, Outcome, outcome, isLogged}
 
@@ -21,15 +23,15 @@ pub record Session : Type 0 where
   pub lines : List AnswerLine
   pub log : Log
 
-unfoldable pub session : Register → List ℕ → Log → List Request → Session
-session r matrix log [] =
+unfoldable pub session : Register → (persons matrix : List ℕ) → Log → List Request → Session
+session r persons matrix log [] =
     record {
       lines = [];
       log = log;
     }
-session r matrix log (q ∷ qs) =
-    let x : Outcome = outcome r matrix q log in
-    let more : Session = session r (x .matrix) (x .log) qs in
+session r persons matrix log (q ∷ qs) =
+    let x : Outcome = outcome r persons matrix q log in
+    let more : Session = session r persons (x .matrix) (x .log) qs in
     record {
       lines = answerLine log x ∷ more .lines;
       log = more .log;
@@ -91,7 +93,7 @@ newLog =
     }
 
 abbrev pub tableSession : Session
-tableSession = session tableRegister (replicate 10 0) newLog tableRequests
+tableSession = session tableRegister (ownNumbers 2) (replicate 10 0) newLog tableRequests
 
 -- The table, and L3's record: three records of 6, 6 and 7 bytes stand before it.
 pub record Table : Type 0 where

@@ -1,4 +1,5 @@
--- The wall over a bare notion of conflict between clients, and who holds what (document 01, 'Who holds what'; document 02, C-12).
+-- The wall over a bare notion of conflict between clients, and who holds what (document 01, 'Who holds what'; document 02, C-12 and
+-- C-14: 'the wall rule speaks of what a person holds').
 use Prim.Native.Nat.{ℕ, _<_}
 use mathlib.Core.Path.{_≡_}
 use mathlib.Core.Logic.{_⊎_}
@@ -21,7 +22,7 @@ Own w f c = (c ≡ w .own f) × (c ≡ 0 → ⊥)
 
 -- ---- rights
 
--- The rights that stand: of each login on each folder.
+-- The rights that stand: of each person on each folder.
 pub record Rights : Type 0 where
   pub read : ℕ → ℕ → Bool
   pub write : ℕ → ℕ → Bool
@@ -33,7 +34,7 @@ noRights =
       write = λ s f. false;
     }
 
--- Whether (t, f) is the login and folder (s, o) asked for.
+-- Whether (t, f) is the person and folder (s, o) asked for.
 abbrev pub asked : ℕ → ℕ → ℕ → ℕ → Bool
 asked s o t f = eqb t s && eqb f o
 
@@ -56,46 +57,46 @@ afterGrant k s o kind list =
 
 -- ---- what is held
 
--- Which clients each login and each folder holds.
+-- Which clients each person and each folder holds.
 pub record Held : Type 1 where
-  pub login : ℕ → ℕ → Type 0
+  pub person : ℕ → ℕ → Type 0
   pub folder : ℕ → ℕ → Type 0
 
--- 'At first a folder holds its own client; a sanitised folder and a login hold none.'
+-- 'At first a folder holds its own client; a sanitised folder and a login hold none': here a person.
 abbrev pub atFirst : Wall → Held
 atFirst w =
     record {
-      login = λ s c. ⊥;
+      person = λ s c. ⊥;
       folder = λ f c. Own w f c;
     }
 
--- A use of a right: a reading or a writing of a folder by a login.
+-- A use of a right: by whom, and of which folder.
 pub data Use : Type 0 where
   reading : ℕ → ℕ → Use
   writing : ℕ → ℕ → Use
 
--- 'A reading of o by s adds all that o holds to s, a writing all that s holds to o; without its right standing it does nothing.'
+-- 'A reading of o by s adds all that o holds to s, a writing all that s holds to o; without its right standing it does nothing.' Here s is a person.
 unfoldable pub used : Rights → Use → Held → Held
 used k (reading s o) h =
     record {
-      login = λ t c. h .login t c ⊎ ((t ≡ s) × (k .read s o ≡ true) × h .folder o c);
+      person = λ t c. h .person t c ⊎ ((t ≡ s) × (k .read s o ≡ true) × h .folder o c);
       folder = h .folder;
     }
 used k (writing s o) h =
     record {
-      login = h .login;
-      folder = λ f c. h .folder f c ⊎ ((f ≡ o) × (k .write s o ≡ true) × h .login s c);
+      person = h .person;
+      folder = λ f c. h .folder f c ⊎ ((f ≡ o) × (k .write s o ≡ true) × h .person s c);
     }
 
 -- ---- the wall broken
 
--- A login holds two clients in conflict.
+-- A person holds two clients in conflict.
 pub record TwoHeld (w : Wall) (h : Held) : Type 0 where
-  pub login : ℕ
+  pub person : ℕ
   pub one : ℕ
   pub other : ℕ
-  pub holds-one : h .login login one
-  pub holds-other : h .login login other
+  pub holds-one : h .person person one
+  pub holds-other : h .person person other
   pub in-conflict : w .conflict one other
 
 -- A folder holds a client not its own.
@@ -105,8 +106,8 @@ pub record Strayed (w : Wall) (h : Held) : Type 0 where
   pub holds : h .folder folder client
   pub not-own : Own w folder client → ⊥
 
--- The wall is broken if a login holds 'two clients in conflict' (document 02, C-12; in document 01 'two clients of one class'), 'or a folder a client
--- not its own'.
+-- The wall is broken if a person (document 02, C-14; in document 01 a login) holds 'two clients in conflict' (C-12; in document 01 'two clients of one
+-- class'), 'or a folder a client not its own'.
 abbrev pub Broken : Wall → Held → Type 0
 Broken w h = TwoHeld w h ⊎ Strayed w h
 
@@ -120,7 +121,7 @@ pub record Breaks (w : Wall) (k : Rights) (h : Held) (s : ℕ) : Type 0 where
       ((k .read s second ≡ true) × Broken w (used k (reading s second) (used k (reading s first) h)))
       ⊎ ((k .write s second ≡ true) × Broken w (used k (writing s second) (used k (reading s first) h)))
 
--- A refusal to s of folder o is needful.
+-- A refusal to person s of folder o is needful.
 abbrev pub Needful : Wall → Rights → Held → ℕ → ℕ → ℕ → Type 0
 Needful w k h s o kind = Breaks w (joined k s o kind) h s
 

@@ -8,11 +8,11 @@ use types.Run.{OneOf, miss}
 use Rattle.response.specs.Response.{responseAnswer}
 use Rattle.response.proofs.Response.{the-type}
 use Rattle.response.specs.declared.Response.{Response}
-use Rattle.response.specs.declared.Response.the-variants.{Granted, OutOfRange, LoneZero, TwoClasses, MatrixLength, UnknownLogin, UnknownFolder, UnknownKind, BadCell, BadEnd, BadPairs, Rival, Foreign, AtStake, NoRoom}
+use Rattle.response.specs.declared.Response.the-variants.{Granted, OutOfRange, LoneZero, TwoClasses, MatrixLength, UnknownLogin, UnknownFolder, UnknownKind, BadCell, BadEnd, BadPersons, BadPairs, Rival, Foreign, AtStake, NoRoom}
 
 -- All but a grant.
-pub not-granted : (a : Response) → OneOf (1 ∷ 2 ∷ 3 ∷ 4 ∷ 5 ∷ 6 ∷ 7 ∷ 8 ∷ 9 ∷ 10 ∷ 11 ∷ 12 ∷ 13 ∷ 14 ∷ []) (tagOf the-type a) → eqb (responseAnswer a .number) 0 ≡ false
-not-granted (Granted n) k = absurd (miss (1 ∷ 2 ∷ 3 ∷ 4 ∷ 5 ∷ 6 ∷ 7 ∷ 8 ∷ 9 ∷ 10 ∷ 11 ∷ 12 ∷ 13 ∷ 14 ∷ []) 0 tt k)
+pub not-granted : (a : Response) → OneOf (1 ∷ 2 ∷ 3 ∷ 4 ∷ 5 ∷ 6 ∷ 7 ∷ 8 ∷ 9 ∷ 10 ∷ 11 ∷ 12 ∷ 13 ∷ 14 ∷ 15 ∷ []) (tagOf the-type a) → eqb (responseAnswer a .number) 0 ≡ false
+not-granted (Granted n) k = absurd (miss (1 ∷ 2 ∷ 3 ∷ 4 ∷ 5 ∷ 6 ∷ 7 ∷ 8 ∷ 9 ∷ 10 ∷ 11 ∷ 12 ∷ 13 ∷ 14 ∷ 15 ∷ []) 0 tt k)
 not-granted OutOfRange k = refl
 not-granted (LoneZero f) k = refl
 not-granted (TwoClasses f g) k = refl
@@ -22,6 +22,7 @@ not-granted UnknownFolder k = refl
 not-granted UnknownKind k = refl
 not-granted (BadCell f) k = refl
 not-granted BadEnd k = refl
+not-granted BadPersons k = refl
 not-granted BadPairs k = refl
 not-granted (Rival f) k = refl
 not-granted (Foreign f) k = refl

@@ -20,10 +20,12 @@ pub enum Response {
     UnknownFolder,
     // 7: kind is not 1 to 4
     UnknownKind,
-    // 8: a cell of this login's row exceeds 3
+    // 8: a cell of the person's row exceeds 3
     BadCell(FolderNo),
     // 9: the log's end lies past its buffer
     BadEnd,
+    // 10: the person list's length is not P, or an entry is P or more
+    BadPersons,
     // 11: the pairs' lists are of unequal length or have over 256 pairs, or a pair names client 0 or one client twice
     BadPairs,
     // 20: a rival exists
@@ -82,6 +84,7 @@ pub fn in_numbers(response: Response) -> Numbers
         Response::UnknownKind => refused(7, 0, 0),
         Response::BadCell(f) => refused(8, f.0, 0),
         Response::BadEnd => refused(9, 0, 0),
+        Response::BadPersons => refused(10, 0, 0),
         Response::BadPairs => refused(11, 0, 0),
         Response::Rival(f) => refused(20, f.0, 0),
         Response::Foreign(f) => refused(21, f.0, 0),

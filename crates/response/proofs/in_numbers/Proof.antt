@@ -73,29 +73,35 @@ enum-told-7 c = search needs
 refused-requires-10 : tie.Need-refused-requires-10
 refused-requires-10 c κs = search needs
 
-enum-known-response-5 : tie.Need-enum-known-response-5
-enum-known-response-5 c = search needs
+enum-told-8 : tie.Need-enum-told-8
+enum-told-8 c = search needs
 
 refused-requires-11 : tie.Need-refused-requires-11
 refused-requires-11 c κs = search needs
 
-enum-known-response-6 : tie.Need-enum-known-response-6
-enum-known-response-6 c = search needs
+enum-known-response-5 : tie.Need-enum-known-response-5
+enum-known-response-5 c = search needs
 
 refused-requires-12 : tie.Need-refused-requires-12
 refused-requires-12 c κs = search needs
 
-enum-known-response-7 : tie.Need-enum-known-response-7
-enum-known-response-7 c = search needs
+enum-known-response-6 : tie.Need-enum-known-response-6
+enum-known-response-6 c = search needs
 
 refused-requires-13 : tie.Need-refused-requires-13
 refused-requires-13 c κs = search needs
 
-enum-told-8 : tie.Need-enum-told-8
-enum-told-8 c = search needs
+enum-known-response-7 : tie.Need-enum-known-response-7
+enum-known-response-7 c = search needs
 
 refused-requires-14 : tie.Need-refused-requires-14
 refused-requires-14 c κs = search needs
+
+enum-told-9 : tie.Need-enum-told-9
+enum-told-9 c = search needs
+
+refused-requires-15 : tie.Need-refused-requires-15
+refused-requires-15 c κs = search needs
 
 returns : tie.Need-returns
 returns c =
@@ -143,19 +149,23 @@ returns-11 c =
 
 returns-12 : tie.Need-returns-12
 returns-12 c =
-    rw (c .refused11 .ensures, c .before .before .response5 .given .1)
+    rw (c .refused11 .ensures, c .before .enum-told8 .given .1)
 
 returns-13 : tie.Need-returns-13
 returns-13 c =
-    rw (c .refused12 .ensures, c .before .before .response6 .given .1)
+    rw (c .refused12 .ensures, c .before .before .response5 .given .1)
 
 returns-14 : tie.Need-returns-14
 returns-14 c =
-    rw (c .refused13 .ensures, c .before .before .response7 .given .1)
+    rw (c .refused13 .ensures, c .before .before .response6 .given .1)
 
 returns-15 : tie.Need-returns-15
 returns-15 c =
-    rw (c .refused14 .ensures, c .before .enum-told8 .given .1)
+    rw (c .refused14 .ensures, c .before .before .response7 .given .1)
+
+returns-16 : tie.Need-returns-16
+returns-16 c =
+    rw (c .refused15 .ensures, c .before .enum-told9 .given .1)
 
 pub in-numbers-spec : {M : Type 1} → statement M
 in-numbers-spec =
@@ -183,14 +193,16 @@ in-numbers-spec =
     refused-requires-9
     enum-told-7
     refused-requires-10
-    enum-known-response-5
-    refused-requires-11
-    enum-known-response-6
-    refused-requires-12
-    enum-known-response-7
-    refused-requires-13
     enum-told-8
+    refused-requires-11
+    enum-known-response-5
+    refused-requires-12
+    enum-known-response-6
+    refused-requires-13
+    enum-known-response-7
     refused-requires-14
+    enum-told-9
+    refused-requires-15
     returns
     returns-2
     returns-3
@@ -205,4 +217,5 @@ in-numbers-spec =
     returns-12
     returns-13
     returns-14
-    returns-15)
+    returns-15
+    returns-16)

@@ -1,0 +1,2 @@
+pub mod PersonList
+pub mod Claims
