@@ -1,5 +1,5 @@
-// Rows 1 to 7 of the table, 11 among them after 3: register, matrix and request. Where they are passed the response is a grant, with nothing taken
-// back yet.
+// Rows 1 to 7 of the table, 11 among them after 3 and 10 after 5: register, matrix, request and person list. Where they are passed the response is a
+// grant, with nothing taken back yet.
 use ids::Request;
 use register_check::Verdict;
 use response::Response;
@@ -10,16 +10,19 @@ ghost use Rattle.response.specs.Response.{responseAnswer};
 ghost use Rattle.log_writer.specs.Reply.{requestOf};
 ghost use Rattle.monitor.specs.Front.{fourToSeven, oneToSeven};
 
-// Rows 4 to 7, once P and F are in range.
-fn known(logins: usize, folders: usize, size: usize, asked: Request) -> Response
+// Rows 4 to 7, with 10 after 5, once P and F are in range.
+fn known(logins: usize, folders: usize, persons: &[u16], size: usize, asked: Request) -> Response
     requires { ⌜ (logins ≤ 128) × (folders ≤ 512) ⌝ }
-    ensures { λ r. ⌜ responseAnswer r ≡ fourToSeven logins folders size (requestOf asked) ⌝ }
+    ensures { λ r. ⌜ responseAnswer r ≡ fourToSeven logins folders (now (persons .entry)) size (requestOf asked) ⌝ }
 {
     if size != logins * folders {
         return Response::MatrixLength;
     }
     if logins <= asked.login.0 as usize {
         return Response::UnknownLogin;
+    }
+    if person_list::bad_persons(logins, persons) {
+        return Response::BadPersons;
     }
     if folders <= asked.folder.0 as usize {
         return Response::UnknownFolder;
@@ -33,7 +36,7 @@ fn known(logins: usize, folders: usize, size: usize, asked: Request) -> Response
     Response::Granted(0)
 }
 
-// Rows 1 to 7 and 11; `size` is the matrix's length. The labels are judged apart from the pairs, so that by classes the lists of pairs cost nothing.
+// Rows 1 to 7, 10 and 11; `size` is the matrix's length. The labels are judged apart from the pairs, so that by classes the lists of pairs cost nothing.
 pub(crate) fn judge_front(
     logins: usize,
     classes: &[u16],
@@ -41,10 +44,11 @@ pub(crate) fn judge_front(
     by_pairs: bool,
     firsts: &[u16],
     seconds: &[u16],
+    persons: &[u16],
     size: usize,
     asked: Request,
 ) -> Response
-    ensures { λ r. ⌜ responseAnswer r ≡ oneToSeven (lentBy logins classes clients «by_pairs» firsts seconds) size (requestOf asked) ⌝ }
+    ensures { λ r. ⌜ responseAnswer r ≡ oneToSeven (lentBy logins classes clients «by_pairs» firsts seconds) (now (persons .entry)) size (requestOf asked) ⌝ }
 {
     let verdict = register_check::check_labels(logins, classes, clients);
     match verdict {
@@ -56,7 +60,7 @@ pub(crate) fn judge_front(
             if register_check::pairs_refused(by_pairs, firsts, seconds) {
                 return Response::BadPairs;
             }
-            known(logins, classes.len(), size, asked)
+            known(logins, classes.len(), persons, size, asked)
         }
     }
 }

@@ -1,7 +1,6 @@
 -- `any_beyond` meets its contract: the flag says whether an entry that the loop has passed is P or more.
 use Prim.Native.Nat.{_≤_, _-_}
 use mathlib.Core.Path.{_≡_, refl}
-use mathlib.Core.Bool.{_||_}
 use lib.ListN.{length}
 use lib.Dec.{leb}
 use denote.Ref.{now}
@@ -13,8 +12,6 @@ use native.Mathlib.Omega.{arith}
 use borrow.Author.Needs.{needs}
 use Rattle.person_list.proofs.any_beyond.Statement.{statement}
 use Rattle.person_list.proofs.any_beyond.Tie as tie
-use Rattle.person_list.proofs.any_beyond.Reads as reads
-use Rattle.person_list.proofs.any_beyond.Lts as lts
 
 abbrev Inv-loop : tie.InvT-loop
 Inv-loop logins persons any₀ s₀ any s = (s ≤ length persons) × (any ≡ some (those (λ i. leb logins (personOf persons i)) s))

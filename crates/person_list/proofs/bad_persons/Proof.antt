@@ -9,9 +9,6 @@ use native.Mathlib.Omega.{arith}
 use borrow.Author.Needs.{needs}
 use Rattle.person_list.proofs.bad_persons.Statement.{statement}
 use Rattle.person_list.proofs.bad_persons.Tie as tie
-use Rattle.person_list.proofs.bad_persons.Reads as reads
-use Rattle.person_list.proofs.bad_persons.Lts as lts
-use Rattle.person_list.proofs.any_beyond.Reads as any-beyond-reads
 
 returns : tie.Need-returns
 unfolding badPersons

@@ -11,8 +11,6 @@ use native.Mathlib.Omega.{arith}
 use borrow.Author.Needs.{needs}
 use Rattle.person_list.proofs.own_numbers.Statement.{statement}
 use Rattle.person_list.proofs.own_numbers.Tie as tie
-use Rattle.person_list.proofs.own_numbers.Reads as reads
-use Rattle.person_list.proofs.own_numbers.Lts as lts
 
 abbrev Inv-loop : tie.InvT-loop
 Inv-loop list₀ s₀ list s = (s ≤ 128) × (length list ≡ 128) × (take s list ≡ ownNumbers s)

@@ -6,8 +6,6 @@ use native.Mathlib.Omega.{arith}
 use borrow.Author.Needs.{needs}
 use Rattle.person_list.proofs.person_of.Statement.{statement}
 use Rattle.person_list.proofs.person_of.Tie as tie
-use Rattle.person_list.proofs.person_of.Reads as reads
-use Rattle.person_list.proofs.person_of.Lts as lts
 
 cast-place : tie.Need-cast-place
 cast-place c = search needs

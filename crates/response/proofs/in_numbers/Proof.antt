@@ -2,10 +2,6 @@
 use borrow.Author.Needs.{needs}
 use Rattle.response.proofs.in_numbers.Statement.{statement}
 use Rattle.response.proofs.in_numbers.Tie as tie
-use Rattle.response.proofs.in_numbers.Reads as reads
-use Rattle.response.proofs.in_numbers.Lts as lts
-use Rattle.response.proofs.granted.Reads as granted-reads
-use Rattle.response.proofs.refused.Reads as refused-reads
 
 enum-known-response : tie.Need-enum-known-response
 enum-known-response c = search needs
