@@ -30,7 +30,7 @@ fn show(text: Text) -> bool
     io::write_all(STDOUT_FILENO, &bytes[0..n])
 }
 
-// The requests, with a blank matrix of P times F cells and an empty log.
+// The requests, with each login its own person, a blank matrix of P times F cells and an empty log.
 fn serve(input: &[u8], opening: Opening)
     requires { ⌜ (length (opening .classes) ≡ 512) × (length (opening .clients) ≡ 512) ⌝ }
 {
@@ -38,6 +38,7 @@ fn serve(input: &[u8], opening: Opening)
     let logins = opening.logins;
     let classes = opening.classes;
     let clients = opening.clients;
+    let persons = person_list::own_numbers();
     let mut matrix = [0u8; 65536];
     let mut log = [0u8; 65536];
     // an accepted register has no more
@@ -54,6 +55,7 @@ fn serve(input: &[u8], opening: Opening)
         logins,
         &classes[0..folders],
         &clients[0..folders],
+        &persons[0..logins],
         &mut matrix[0..cells],
         &mut log,
     );
@@ -67,13 +69,24 @@ fn run(
     logins: usize,
     classes: &[u16],
     clients: &[u16],
+    persons: &[u16],
     matrix: &mut [u8],
     log: &mut [u8],
 ) {
     let mut at = place;
     let mut tail = Tail { end: 0, serial: 0 };
     for _ in 0..=input.len() {
-        let progress = desk_core::step(input, at, logins, classes, clients, matrix, log, tail);
+        let progress = desk_core::step(
+            input,
+            at,
+            logins,
+            classes,
+            clients,
+            persons,
+            matrix,
+            log,
+            tail,
+        );
         let text = progress.text;
         if !(show(text) & progress.onward) {
             return;

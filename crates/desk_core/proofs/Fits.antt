@@ -31,27 +31,27 @@ ending-fits text place h = by (leb (length text) place) (line-number-fits text p
     by true k = omega arith
     by false k = k
 
-line-fits : (r : Register) (m : List ℕ) (q : Request) (log : Log) → log .serial ≤ 65535 → length (lineText (answerLine log (outcome r m q log))) ≤ 4096
-line-fits r m q log h = by (true-or-false (isLogged (outcome r m q log .answer)))
+line-fits : (r : Register) (ps m : List ℕ) (q : Request) (log : Log) → log .serial ≤ 65535 → length (lineText (answerLine log (outcome r ps m q log))) ≤ 4096
+line-fits r ps m q log h = by (true-or-false (isLogged (outcome r ps m q log .answer)))
   where
-    number : outcome r m q log .answer .number < 65536
-    number = omega (arith, outcome-most r m q log)
+    number : outcome r ps m q log .answer .number < 65536
+    number = omega (arith, outcome-most r ps m q log)
 
-    by : (isLogged (outcome r m q log .answer) ≡ true) ⊎ (isLogged (outcome r m q log .answer) ≡ false) → length (lineText (answerLine log (outcome r m q log))) ≤ 4096
+    by : (isLogged (outcome r ps m q log .answer) ≡ true) ⊎ (isLogged (outcome r ps m q log .answer) ≡ false) → length (lineText (answerLine log (outcome r ps m q log))) ≤ 4096
     by (inl l) =
-        let w = logged-well-formed r m q log l h in
-        let list = outcome r m q log .answer .carried in
+        let w = logged-well-formed r ps m q log l h in
+        let list = outcome r ps m q log .answer .carried in
         let few = rising-less (q .folder) list (w .folder) (w .list) in
-        rw l (serial-fits (log .serial) (outcome r m q log .answer .number) list (omega arith) number (rising-small (q .folder) 0 list (w .list)) (omega arith))
-    by (inr l) = rw l (dash-fits (outcome r m q log .answer .number) number)
+        rw l (serial-fits (log .serial) (outcome r ps m q log .answer .number) list (omega arith) number (rising-small (q .folder) 0 list (w .list)) (omega arith))
+    by (inr l) = rw l (dash-fits (outcome r ps m q log .answer .number) number)
 
-pub step-fits : (text : List ℕ) (r : Register) (place : ℕ) (matrix : List ℕ) (log : Log) → length text < 2 ^ 64 → log .serial ≤ 65535
-    → length (stepped text r place matrix log .text) ≤ 4096
+pub step-fits : (text : List ℕ) (r : Register) (ps : List ℕ) (place : ℕ) (matrix : List ℕ) (log : Log) → length text < 2 ^ 64 → log .serial ≤ 65535
+    → length (stepped text r ps place matrix log .text) ≤ 4096
 unfolding stepped
-step-fits text r place matrix log h k = by (lineAt text place)
+step-fits text r ps place matrix log h k = by (lineAt text place)
   where
-    by : (line : Line) → length (steppedOn line text r place matrix log .text) ≤ 4096
-    by (requestLine kind login o next) = line-fits r matrix (session.request kind login o) log k
+    by : (line : Line) → length (steppedOn line text r ps place matrix log .text) ≤ 4096
+    by (requestLine kind login o next) = line-fits r ps matrix (session.request kind login o) log k
     by (loginsLine n next) = ending-fits text place h
     by (folderLine class client next) = ending-fits text place h
     by illLine = ending-fits text place h

@@ -11,10 +11,13 @@ use lib.Seq.{sets}
 use borrow.Author.Tests.{eqb-true, leb-true, ltb-false}
 use Rattle.vocabulary.proofs.Bools.{true-or-false, both}
 use Rattle.serial.specs.Serial.{following}
+use Rattle.person_list.specs.PersonList.{ownNumbers}
+use Rattle.person_list.proofs.PersonList.{own-take}
 use Rattle.register.specs.Register.{Register, registerOf, folders, registerAnswer}
 use Rattle.policy.specs.Outcome.{Request, Log, Outcome, outcome, isLogged}
 use Rattle.policy.specs.Session.{newLog, session, answerLine}
 use Rattle.policy.specs.Session as session
+use Rattle.register.proofs.Answers.{inRange-ranged}
 use Rattle.policy.proofs.Accepted.{in-range}
 use Rattle.log_exact.proofs.Appended.{logged-left}
 use Rattle.log_exact.proofs.WriterPasses.{unlogged-left}
@@ -38,101 +41,99 @@ runOf text x =
     let y = openingOf x in
     shown (y .text)
     ++ cond (y .onward)
-    (stepsBy (suc (length text)) text (registerOf (y .logins) (take (y .folders) (y .classes)) (take (y .folders) (y .clients))) (y .place) (replicate (y .logins * y .folders) 0) newLog)
+    (stepsBy (suc (length text)) text (registerOf (y .logins) (take (y .folders) (y .classes)) (take (y .folders) (y .clients))) (take (y .logins) (ownNumbers 128)) (y .place) (replicate (y .logins * y .folders) 0) newLog)
     []
 
 closed-whole : (text line : List ℕ) → length line ≤ 4096 → runOf text (closedWith line) ≡ line
 closed-whole text line h = append-nil (shown (textOf line)) ∙ shown-text line h
 
 -- What steps print, without the buffers.
-unfoldable plainBy : (fuel : ℕ) → List ℕ → Register → (place : ℕ) → (matrix : List ℕ) → Log → List ℕ
-plainBy zero text r place matrix log = []
-plainBy (suc fuel) text r place matrix log =
-    let s : Stepped = stepped text r place matrix log in
-    s .text ++ cond (s .onward) (plainBy fuel text r (s .place) (s .matrix) (s .log)) []
+unfoldable plainBy : (fuel : ℕ) → List ℕ → Register → (ps : List ℕ) (place : ℕ) → (matrix : List ℕ) → Log → List ℕ
+plainBy zero text r ps place matrix log = []
+plainBy (suc fuel) text r ps place matrix log =
+    let s : Stepped = stepped text r ps place matrix log in
+    s .text ++ cond (s .onward) (plainBy fuel text r ps (s .place) (s .matrix) (s .log)) []
 
 -- A serial of 16 bits stays one.
-serial-kept : (r : Register) (matrix : List ℕ) (q : Request) (log : Log) → log .serial ≤ 65535 → outcome r matrix q log .log .serial ≤ 65535
-serial-kept r matrix q log h = go (true-or-false (isLogged (outcome r matrix q log .answer)))
+serial-kept : (r : Register) (ps matrix : List ℕ) (q : Request) (log : Log) → log .serial ≤ 65535 → outcome r ps matrix q log .log .serial ≤ 65535
+serial-kept r ps matrix q log h = go (true-or-false (isLogged (outcome r ps matrix q log .answer)))
   where
-    go : (isLogged (outcome r matrix q log .answer) ≡ true) ⊎ (isLogged (outcome r matrix q log .answer) ≡ false) → outcome r matrix q log .log .serial ≤ 65535
+    go : (isLogged (outcome r ps matrix q log .answer) ≡ true) ⊎ (isLogged (outcome r ps matrix q log .answer) ≡ false) → outcome r ps matrix q log .log .serial ≤ 65535
     go (inl l) =
-        let next : outcome r matrix q log .log .serial ≡ following 65536 (log .serial) = ap (λ (k : Log). k .serial) (logged-left r matrix q log l) in
+        let next : outcome r ps matrix q log .log .serial ≡ following 65536 (log .serial) = ap (λ (k : Log). k .serial) (logged-left r ps matrix q log l) in
         rw next (omega arith)
-    go (inr l) = rw (unlogged-left r matrix q log l) h
+    go (inr l) = rw (unlogged-left r ps matrix q log l) h
 
 -- ---- the steps
 
 module _ (text : List ℕ)
-    (fits : (r : Register) (place : ℕ) (matrix : List ℕ) (log : Log) → log .serial ≤ 65535 → length (stepped text r place matrix log .text) ≤ 4096) where
-  step-serial : (r : Register) (place : ℕ) (matrix : List ℕ) (log : Log) → log .serial ≤ 65535 → stepped text r place matrix log .log .serial ≤ 65535
+    (fits : (r : Register) (ps : List ℕ) (place : ℕ) (matrix : List ℕ) (log : Log) → log .serial ≤ 65535 → length (stepped text r ps place matrix log .text) ≤ 4096) where
+  step-serial : (r : Register) (ps : List ℕ) (place : ℕ) (matrix : List ℕ) (log : Log) → log .serial ≤ 65535 → stepped text r ps place matrix log .log .serial ≤ 65535
   unfolding stepped
-  step-serial r place matrix log h = go (lineAt text place) refl
+  step-serial r ps place matrix log h = go (lineAt text place) refl
     where
-      go : (line : Line) → lineAt text place ≡ line → stepped text r place matrix log .log .serial ≤ 65535
+      go : (line : Line) → lineAt text place ≡ line → stepped text r ps place matrix log .log .serial ≤ 65535
       go (loginsLine n next) e = rw e h
       go (folderLine class client next) e = rw e h
       go illLine e = rw e h
-      go (requestLine kind login o next) e = rw e (serial-kept r matrix (session.request kind login o) log h)
+      go (requestLine kind login o next) e = rw e (serial-kept r ps matrix (session.request kind login o) log h)
 
-  steps-plain : (k : ℕ) (r : Register) (place : ℕ) (matrix : List ℕ) (log : Log) → log .serial ≤ 65535
-      → stepsBy k text r place matrix log ≡ plainBy k text r place matrix log
+  steps-plain : (k : ℕ) (r : Register) (ps : List ℕ) (place : ℕ) (matrix : List ℕ) (log : Log) → log .serial ≤ 65535
+      → stepsBy k text r ps place matrix log ≡ plainBy k text r ps place matrix log
   unfolding stepsBy plainBy
-  steps-plain zero r place matrix log h = refl
-  steps-plain (suc k) r place matrix log h =
-      let s = stepped text r place matrix log in
-      rw (shown-text (s .text) (fits r place matrix log h), steps-plain k r (s .place) (s .matrix) (s .log) (step-serial r place matrix log h))
+  steps-plain zero r ps place matrix log h = refl
+  steps-plain (suc k) r ps place matrix log h =
+      let s = stepped text r ps place matrix log in
+      rw (shown-text (s .text) (fits r ps place matrix log h), steps-plain k r ps (s .place) (s .matrix) (s .log) (step-serial r ps place matrix log h))
 
   -- The steps from a place on, with fuel that is enough, print the lines of the requests there and what ends the run.
-  abbrev Served : Register → ℕ → Type 0
-  Served r k =
+  abbrev Served : Register → List ℕ → ℕ → Type 0
+  Served r ps k =
       (place : ℕ) (matrix : List ℕ) (log : Log) → length text ≤ place + k
-      → plainBy (suc k) text r place matrix log
-      ≡ linesText (session r matrix log (askedBy k text place .requests) .lines) ++ ending text (askedBy k text place .place)
+      → plainBy (suc k) text r ps place matrix log
+      ≡ linesText (session r ps matrix log (askedBy k text place .requests) .lines) ++ ending text (askedBy k text place .place)
 
   ahead : (line : Line) (place : ℕ) → lineAt text place ≡ line → Ahead text place line
   ahead line place e = rw (← e) (line-ahead text place)
 
-  end-served : (r : Register) (line : Line) (place : ℕ) (matrix : List ℕ) (log : Log) → lineAt text place ≡ line → length text ≤ place
-      → plainBy 1 text r place matrix log ≡ ending text place
+  end-served : (r : Register) (ps : List ℕ) (line : Line) (place : ℕ) (matrix : List ℕ) (log : Log) → lineAt text place ≡ line → length text ≤ place
+      → plainBy 1 text r ps place matrix log ≡ ending text place
   unfolding plainBy stepped
-  end-served r (loginsLine n next) place matrix log e h = rw e (append-nil (ending text place))
-  end-served r (folderLine class client next) place matrix log e h = rw e (append-nil (ending text place))
-  end-served r illLine place matrix log e h = rw e (append-nil (ending text place))
-  end-served r (requestLine kind login o next) place matrix log e h = let on = ahead (requestLine kind login o next) place e in absurd (omega (arith, on .0, on .1))
+  end-served r ps (loginsLine n next) place matrix log e h = rw e (append-nil (ending text place))
+  end-served r ps (folderLine class client next) place matrix log e h = rw e (append-nil (ending text place))
+  end-served r ps illLine place matrix log e h = rw e (append-nil (ending text place))
+  end-served r ps (requestLine kind login o next) place matrix log e h = let on = ahead (requestLine kind login o next) place e in absurd (omega (arith, on .0, on .1))
 
-  line-served : (r : Register) (k : ℕ) → Served r k → (line : Line) (place : ℕ) (matrix : List ℕ) (log : Log) → lineAt text place ≡ line
+  line-served : (r : Register) (ps : List ℕ) (k : ℕ) → Served r ps k → (line : Line) (place : ℕ) (matrix : List ℕ) (log : Log) → lineAt text place ≡ line
       → length text ≤ place + suc k
-      → plainBy (suc (suc k)) text r place matrix log
-      ≡ linesText (session r matrix log (askedBy (suc k) text place .requests) .lines) ++ ending text (askedBy (suc k) text place .place)
+      → plainBy (suc (suc k)) text r ps place matrix log
+      ≡ linesText (session r ps matrix log (askedBy (suc k) text place .requests) .lines) ++ ending text (askedBy (suc k) text place .place)
   unfolding plainBy stepped askedBy session linesText
-  line-served r k ih (loginsLine n next) place matrix log e h = rw e (append-nil (ending text place))
-  line-served r k ih (folderLine class client next) place matrix log e h = rw e (append-nil (ending text place))
-  line-served r k ih illLine place matrix log e h = rw e (append-nil (ending text place))
-  line-served r k ih (requestLine kind login o next) place matrix log e h =
-      let x : Outcome = outcome r matrix (session.request kind login o) log in
+  line-served r ps k ih (loginsLine n next) place matrix log e h = rw e (append-nil (ending text place))
+  line-served r ps k ih (folderLine class client next) place matrix log e h = rw e (append-nil (ending text place))
+  line-served r ps k ih illLine place matrix log e h = rw e (append-nil (ending text place))
+  line-served r ps k ih (requestLine kind login o next) place matrix log e h =
+      let x : Outcome = outcome r ps matrix (session.request kind login o) log in
       let on = ahead (requestLine kind login o next) place e in
       let rest = ih next (x .matrix) (x .log) (omega (arith, on .0)) in
       rw e (ap (λ more. lineText (answerLine log x) ++ more) rest ∙ sym (append-assoc (lineText (answerLine log x)) _ _))
 
-  steps-served : (r : Register) (k : ℕ) → Served r k
+  steps-served : (r : Register) (ps : List ℕ) (k : ℕ) → Served r ps k
   unfolding askedBy session linesText
-  steps-served r zero place matrix log h = end-served r (lineAt text place) place matrix log refl (omega arith)
-  steps-served r (suc k) place matrix log h = line-served r k (steps-served r k) (lineAt text place) place matrix log refl h
+  steps-served r ps zero place matrix log h = end-served r ps (lineAt text place) place matrix log refl (omega arith)
+  steps-served r ps (suc k) place matrix log h = line-served r ps k (steps-served r ps k) (lineAt text place) place matrix log refl h
 
   -- ---- the opening
 
   -- The register is handed back as it was filed.
-  accepted-sizes : (r : Register) → eqb (registerAnswer r .number) 0 ≡ true → (folders r ≤ 512) × (length (r .clients) ≡ folders r)
+  accepted-sizes : (r : Register) → eqb (registerAnswer r .number) 0 ≡ true → (r .logins ≤ 128) × (folders r ≤ 512) × (length (r .clients) ≡ folders r)
   accepted-sizes r e =
-      let range = in-range r (eqb-true (registerAnswer r .number) 0 e) in
-      let same = both (leb 1 (r .logins) && leb (r .logins) 128 && leb 1 (folders r) && leb (folders r) 512) (eqb (folders r) (length (r .clients))) range in
-      let few = both (leb 1 (r .logins) && leb (r .logins) 128 && leb 1 (folders r)) (leb (folders r) 512) (same .0) in
-      (leb-true (folders r) 512 (few .1), sym (eqb-true (folders r) (length (r .clients)) (same .1)))
+      let g = inRange-ranged r (in-range r (eqb-true (registerAnswer r .number) 0 e)) in
+      (g .logins-few, g .folders-few, sym (g .folders-alike))
 
-  register-again : (p : ℕ) (cs ds : List ℕ) → (length cs ≤ 512) × (length ds ≡ length cs)
+  register-again : (p : ℕ) (cs ds : List ℕ) → (p ≤ 128) × (length cs ≤ 512) × (length ds ≡ length cs)
       → registerOf p (take (length cs) (sets (replicate 512 0) 0 cs)) (take (length cs) (sets (replicate 512 0) 0 ds)) ≡ registerOf p cs ds
-  register-again p cs ds (few, same) =
+  register-again p cs ds (logins, few, same) =
       let whole = length-replicate {A = ℕ} 512 0 in
       rw (taken (replicate 512 0) cs (rw whole few), ← same, taken (replicate 512 0) ds (rw (whole, same) few))
 
@@ -141,9 +142,10 @@ module _ (text : List ℕ)
       runOf text (openedWith (registerOf p cs ds) place) ≡ checkedThen (registerOf p cs ds) (served (registerOf p cs ds) text place)
   unfolding openedWith checkedThen served askedAt
   checked-whole true p cs ds place e h =
-      rw (e, register-again p cs ds (accepted-sizes (registerOf p cs ds) e), shown-text [] (omega arith))
-      (steps-plain (suc (length text)) (registerOf p cs ds) place (replicate (p * length cs) 0) newLog (omega arith)
-      ∙ steps-served (registerOf p cs ds) (length text) place (replicate (p * length cs) 0) newLog (omega arith))
+      let sizes = accepted-sizes (registerOf p cs ds) e in
+      rw (e, register-again p cs ds sizes, own-take p 128 (sizes .0), shown-text [] (omega arith))
+      (steps-plain (suc (length text)) (registerOf p cs ds) (ownNumbers p) place (replicate (p * length cs) 0) newLog (omega arith)
+      ∙ steps-served (registerOf p cs ds) (ownNumbers p) (length text) place (replicate (p * length cs) 0) newLog (omega arith))
   checked-whole false p cs ds place e h = rw e (closed-whole text (badRegister (registerAnswer (registerOf p cs ds))) (rw e at h))
 
   filed-whole : (b : Bool) (p : ℕ) (f : Filed) → (isRequest (lineAt text (f .place)) || leb (length text) (f .place)) ≡ b
@@ -165,7 +167,7 @@ unfolding run opened output
 output-whole text true e h = rw e (closed-whole text inputTooLong (rw e at h))
 output-whole text false e h =
     let short : length text < 2 ^ 64 = omega (arith, ltb-false 65536 (length text) e) in
-    rw e (first-whole text (λ r place matrix log. step-fits text r place matrix log short) (lineAt text 0) (rw e at h))
+    rw e (first-whole text (λ r ps place matrix log. step-fits text r ps place matrix log short) (lineAt text 0) (rw e at h))
 
 pub joined : Joined
 joined =

@@ -9,6 +9,7 @@ use lib.Dec.{leb}
 use borrow.Author.Tests.{leb-true}
 use Rattle.vocabulary.specs.Answer.{Answer, Check, judge}
 use Rattle.vocabulary.proofs.Bools.{both, true-or-false}
+use Rattle.person_list.specs.PersonList.{personOf}
 use Rattle.register.specs.Register.{Register, registerChecks}
 use Rattle.log_lists.specs.Rising.{Rising}
 use Rattle.policy.specs.Rules.{rowOf}
@@ -38,19 +39,19 @@ judge-most n (c ∷ cs) x e h =
     by true p q = p
     by false p q = q
 
-module _ (r : Register) (m : List ℕ) (q : Request) (log : Log) where
-  decision-most : decision r m q log .number ≤ 30
+module _ (r : Register) (ps m : List ℕ) (q : Request) (log : Log) where
+  decision-most : decision r ps m q log .number ≤ 30
   unfolding decision registerChecks requestChecks wallAnswer wallChecks noneAbove
   decision-most =
-      judge-most 30 (registerChecks r ++ requestChecks r m q log) (wallAnswer r (rowOf r m (q .login)) (q .folder) (q .kind)) refl
-      (judge-most 30 (wallChecks r (rowOf r m (q .login)) (q .folder) (q .kind)) _ refl (omega arith))
+      judge-most 30 (registerChecks r ++ requestChecks r ps m q log) (wallAnswer r (rowOf r m (personOf ps (q .login))) (q .folder) (q .kind)) refl
+      (judge-most 30 (wallChecks r (rowOf r m (personOf ps (q .login))) (q .folder) (q .kind)) _ refl (omega arith))
 
-  pub outcome-most : outcome r m q log .answer .number ≤ 30
+  pub outcome-most : outcome r ps m q log .answer .number ≤ 30
   unfolding outcome logged tooLong
-  outcome-most = by (true-or-false (isLogged (decision r m q log))) (true-or-false (tooLong r m q log))
+  outcome-most = by (true-or-false (isLogged (decision r ps m q log))) (true-or-false (tooLong r ps m q log))
     where
-      by : (isLogged (decision r m q log) ≡ true) ⊎ (isLogged (decision r m q log) ≡ false) → (tooLong r m q log ≡ true) ⊎ (tooLong r m q log ≡ false)
-          → outcome r m q log .answer .number ≤ 30
-      by (inr f) g = rw (outcome-unlogged r m q log f) decision-most
-      by (inl f) (inl g) = rw (outcome-long r m q log f g) (omega arith)
+      by : (isLogged (decision r ps m q log) ≡ true) ⊎ (isLogged (decision r ps m q log) ≡ false) → (tooLong r ps m q log ≡ true) ⊎ (tooLong r ps m q log ≡ false)
+          → outcome r ps m q log .answer .number ≤ 30
+      by (inr f) g = rw (outcome-unlogged r ps m q log f) decision-most
+      by (inl f) (inl g) = rw (outcome-long r ps m q log f g) (omega arith)
       by (inl f) (inr g) = rw (f, g) decision-most

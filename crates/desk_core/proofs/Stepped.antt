@@ -35,25 +35,25 @@ told-number a = by (true-or-false (eqb (a .number) 0))
     by (inr e) = rw e
 
 -- What is printed of the answer that the caller is told is the request's line.
-answer-text : (r : Register) (m : List ℕ) (q : Request) (log : Log) → log .serial ≤ 65535 → (a : Answer) → a .number ≡ toldAnswer (outcome r m q log .answer) .number
-    → answerText a (outcome r m q log .log .bytes) (log .end) ≡ lineText (answerLine log (outcome r m q log))
-answer-text r m q log serial a e = rw (e, told-number (outcome r m q log .answer)) (by (true-or-false (isLogged (outcome r m q log .answer))))
+answer-text : (r : Register) (ps m : List ℕ) (q : Request) (log : Log) → log .serial ≤ 65535 → (a : Answer) → a .number ≡ toldAnswer (outcome r ps m q log .answer) .number
+    → answerText a (outcome r ps m q log .log .bytes) (log .end) ≡ lineText (answerLine log (outcome r ps m q log))
+answer-text r ps m q log serial a e = rw (e, told-number (outcome r ps m q log .answer)) (by (true-or-false (isLogged (outcome r ps m q log .answer))))
   where
-    by : (isLogged (outcome r m q log .answer) ≡ true) ⊎ (isLogged (outcome r m q log .answer) ≡ false)
-        → answerText (outcome r m q log .answer) (outcome r m q log .log .bytes) (log .end) ≡ lineText (answerLine log (outcome r m q log))
-    by (inl l) = rw l (logged-text r m q log serial l)
+    by : (isLogged (outcome r ps m q log .answer) ≡ true) ⊎ (isLogged (outcome r ps m q log .answer) ≡ false)
+        → answerText (outcome r ps m q log .answer) (outcome r ps m q log .log .bytes) (log .end) ≡ lineText (answerLine log (outcome r ps m q log))
+    by (inl l) = rw l (logged-text r ps m q log serial l)
     by (inr l) = rw l
 
 -- ---- a step
 
-module _ (text : List ℕ) (r : Register) (place : ℕ) (matrix : List ℕ) (log : Log) where
-  over-on : (line : Line) → isRequest line ≡ false → steppedOn line text r place matrix log ≡ over text place matrix log
+module _ (text : List ℕ) (r : Register) (ps : List ℕ) (place : ℕ) (matrix : List ℕ) (log : Log) where
+  over-on : (line : Line) → isRequest line ≡ false → steppedOn line text r ps place matrix log ≡ over text place matrix log
   over-on (loginsLine n next) e = refl
   over-on (folderLine class client next) e = refl
   over-on (requestLine kind login o next) e = absurd (false≢true (sym e))
   over-on illLine e = refl
 
-  pub stepped-over : isRequest (lineAt text place) ≡ false → stepped text r place matrix log ≡ over text place matrix log
+  pub stepped-over : isRequest (lineAt text place) ≡ false → stepped text r ps place matrix log ≡ over text place matrix log
   unfolding stepped
   stepped-over e = over-on (lineAt text place) e
 
@@ -62,17 +62,17 @@ module _ (text : List ℕ) (r : Register) (place : ℕ) (matrix : List ℕ) (log
     asked = session.request kind login o
 
     -- The reply, the line that is printed of it, and what was lent.
-    pub stepped-request : (reply : Reply) (after bytes : List ℕ) (words : Text) → replied reply after bytes ≡ told (outcome r matrix asked log)
+    pub stepped-request : (reply : Reply) (after bytes : List ℕ) (words : Text) → replied reply after bytes ≡ told (outcome r ps matrix asked log)
         → words ≡ textOf (answerText (responseAnswer (reply .response)) bytes (log .end))
         → left (record {
           text = words;
           onward = true;
           place = next;
           tail = reply .tail;
-        }) after bytes ≡ leftBy (stepped text r place matrix log)
+        }) after bytes ≡ leftBy (stepped text r ps place matrix log)
     unfolding stepped
     stepped-request reply after bytes words e f =
-        let line = answer-text r matrix asked log serial (responseAnswer (reply .response)) (ap (λ (x : Outcome). x .answer .number) e) in
+        let line = answer-text r ps matrix asked log serial (responseAnswer (reply .response)) (ap (λ (x : Outcome). x .answer .number) e) in
         rw (
           here,
           f,

@@ -4,6 +4,7 @@ use mathlib.Core.Bool.{cond, _||_}
 use mathlib.Core.List.{List, [], _∷_, _++_}
 use lib.Dec.{eqb, leb, ltb}
 use lib.ListN.{length, replicate}
+use Rattle.person_list.specs.PersonList.{ownNumbers}
 use Rattle.register.specs.Register.{Register, folders, registerAnswer}
 use Rattle.policy.specs.Outcome.{Request}
 use Rattle.policy.specs.Session.{AnswerLine, serialLine, dashLine, newLog, session}
@@ -57,10 +58,11 @@ linesText (line ∷ lines) = lineText line ++ linesText lines
 unfoldable pub ending : List ℕ → ℕ → List ℕ
 ending text place = cond (leb (length text) place) [] (badLine (lineNumber text place))
 
--- What the requests print, with a blank matrix and a new log, and then what ends the run.
+-- What the requests print, with a blank matrix and a new log, and then what ends the run. 'The desk program gives every login its own number' (document
+-- 02, C-14).
 unfoldable pub served : Register → List ℕ → ℕ → List ℕ
 served r text place =
-    linesText (session r (replicate (r .logins * folders r) 0) newLog (askedAt text place .requests) .lines)
+    linesText (session r (ownNumbers (r .logins)) (replicate (r .logins * folders r) 0) newLog (askedAt text place .requests) .lines)
     ++ ending text (askedAt text place .place)
 
 -- The register's check: 'its refusal prints `register`, the number and the folders carried, and ends the run'.

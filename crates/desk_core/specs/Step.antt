@@ -33,9 +33,9 @@ over text place matrix log =
     }
 
 -- A request line prints its line and goes on after it; anything else, or the end, ends the run.
-abbrev pub steppedOn : Line → List ℕ → Register → (place : ℕ) → (matrix : List ℕ) → Log → Stepped
-steppedOn (requestLine kind login o next) text r place matrix log =
-    let x : Outcome = outcome r matrix (session.request kind login o) log in
+abbrev pub steppedOn : Line → List ℕ → Register → (persons : List ℕ) (place : ℕ) → (matrix : List ℕ) → Log → Stepped
+steppedOn (requestLine kind login o next) text r persons place matrix log =
+    let x : Outcome = outcome r persons matrix (session.request kind login o) log in
     record {
       text = lineText (answerLine log x);
       onward = true;
@@ -43,12 +43,12 @@ steppedOn (requestLine kind login o next) text r place matrix log =
       matrix = x .matrix;
       log = x .log;
     }
-steppedOn (loginsLine n next) text r place matrix log = over text place matrix log
-steppedOn (folderLine class client next) text r place matrix log = over text place matrix log
-steppedOn illLine text r place matrix log = over text place matrix log
+steppedOn (loginsLine n next) text r persons place matrix log = over text place matrix log
+steppedOn (folderLine class client next) text r persons place matrix log = over text place matrix log
+steppedOn illLine text r persons place matrix log = over text place matrix log
 
-unfoldable pub stepped : List ℕ → Register → (place : ℕ) → (matrix : List ℕ) → Log → Stepped
-stepped text r place matrix log = steppedOn (lineAt text place) text r place matrix log
+unfoldable pub stepped : List ℕ → Register → (persons : List ℕ) (place : ℕ) → (matrix : List ℕ) → Log → Stepped
+stepped text r persons place matrix log = steppedOn (lineAt text place) text r persons place matrix log
 
 -- The same as it is handed back, with the lent matrix and log.
 pub record Left : Type 0 where

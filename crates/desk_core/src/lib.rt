@@ -28,7 +28,7 @@ fn ending(text: &[u8], place: usize) -> Text
     desk_print::bad_line(line_numbers::line_number(text, place))
 }
 
-// The line at a place, after the opening. A request is asked of the monitor, by classes, and its answer printed; anything else ends the run, with
+// The line at a place, after the opening. A request is asked of the monitor, by classes, with this person list, and its answer printed; anything else ends the run, with
 // `line n 40` unless the input ends there.
 pub fn step(
     text: &[u8],
@@ -36,11 +36,12 @@ pub fn step(
     logins: usize,
     classes: &[u16],
     clients: &[u16],
+    persons: &[u16],
     matrix: &mut [u8],
     log: &mut [u8],
     tail: Tail,
 ) -> Progress
-    ensures { λ r. ⌜ left r (now (matrix .exit)) (now (log .exit)) ≡ leftBy (stepped (now (text .entry)) (lent logins classes clients) place (now (matrix .entry)) (logOf (now (log .entry)) tail)) ⌝ }
+    ensures { λ r. ⌜ left r (now (matrix .exit)) (now (log .exit)) ≡ leftBy (stepped (now (text .entry)) (lent logins classes clients) (now (persons .entry)) place (now (matrix .entry)) (logOf (now (log .entry)) tail)) ⌝ }
 {
     match desk_lines::read_line(text, place) {
         Line::Request { asked, next } => {
@@ -51,6 +52,7 @@ pub fn step(
                 false,
                 &[],
                 &[],
+                persons,
                 matrix,
                 asked,
                 log,

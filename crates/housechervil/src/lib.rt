@@ -87,7 +87,7 @@ pub extern "C" fn hc_register_check(
     told::verdict(register_check::check(logins, classes, clients, by_pairs, firsts, seconds))
 }
 
-// A request, with the mode as above. Its login and folder get their own types here.
+// A request, with the mode as above and the person of each login. Its login and folder get their own types here.
 #[no_mangle]
 pub extern "C" fn hc_request(
     logins: usize,
@@ -96,6 +96,7 @@ pub extern "C" fn hc_request(
     mode: u8,
     firsts: &[u16],
     seconds: &[u16],
+    persons: &[u16],
     matrix: &mut [u8],
     login: u16,
     folder: u16,
@@ -104,7 +105,7 @@ pub extern "C" fn hc_request(
     end: usize,
     serial: u16,
 ) -> HcReply
-    ensures { λ r. ⌜ servedBy r (now (matrix .exit)) (now (log .exit)) ≡ served (outcome (lentBy logins classes clients (not (eqb mode 0)) firsts seconds) (now (matrix .entry)) (request kind login folder) (logAt (now (log .entry)) end serial)) ⌝ }
+    ensures { λ r. ⌜ servedBy r (now (matrix .exit)) (now (log .exit)) ≡ served (outcome (lentBy logins classes clients (not (eqb mode 0)) firsts seconds) (now (persons .entry)) (now (matrix .entry)) (request kind login folder) (logAt (now (log .entry)) end serial)) ⌝ }
 {
     let asked = Request {
         login: LoginNo(login),
@@ -122,6 +123,7 @@ pub extern "C" fn hc_request(
         mode != 0,
         firsts,
         seconds,
+        persons,
         matrix,
         asked,
         log,

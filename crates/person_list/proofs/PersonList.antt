@@ -5,8 +5,8 @@ use mathlib.Core.Logic.{⊎-elim}
 use mathlib.Core.Bool.{true, false, not}
 use mathlib.Core.List.{List, [], _∷_, _++_}
 use native.Mathlib.Omega.{arith}
-use lib.ListN.{length, getD, length-append, List·getD-append, List·getD-eq-default}
-use lib.Seq.{getD-at}
+use lib.ListN.{length, getD, take, length-append, List·getD-append, List·getD-eq-default}
+use lib.Seq.{getD-at, take-all, take-append-le}
 use lib.Dec.{eqb, leb}
 use borrow.Author.Tests.{eqb-true, eq-eqb, not-false, leb-false, lt-leb}
 use Rattle.vocabulary.specs.Those.{those, some}
@@ -66,3 +66,13 @@ own-entry (suc p) login h =
     (λ k. List·getD-append (ownNumbers p) (p ∷ []) nobody login (rw (own-length p) k) ∙ own-entry p login k)
     (λ k. rw k (getD-at (ownNumbers p) p [] nobody p (own-length p)))
     (below-suc h)
+
+-- Fewer logins take as many from the list's start.
+pub own-take : (p n : ℕ) → p ≤ n → take p (ownNumbers n) ≡ ownNumbers p
+own-take p zero h = let none : p ≡ 0 = omega arith in rw none (take-all 0 (ownNumbers 0) (rw (own-length 0) (omega arith)))
+own-take p (suc n) h =
+    ap (take p) (own-next n)
+    ∙ ⊎-elim
+    (λ k. take-append-le p (ownNumbers n) (n ∷ []) (rw (own-length n) (omega (arith, k))) ∙ own-take p n (omega (arith, k)))
+    (λ k. rw k (take-all (suc n) (ownNumbers n ++ (n ∷ [])) (rw (length-append, own-length n) (omega arith)) ∙ sym (own-next n)))
+    (below-suc {k = p} {n = suc n} (omega (arith, h)))

@@ -40,13 +40,13 @@ same-length-2 c = search needs
 
 returns : tie.Need-returns
 returns c =
-    let a = c .before .before .before .before .before .before .before .before .before .before .before .before .before .before .before .before .before .before .before .before .before .args in
-    stepped-request (a .text .now) (registerOf (a .logins) (a .classes .now) (a .clients .now)) (a .place) (a .matrix .now) (logOf (a .log .now) (a .tail)) _ _ _ _ (sym (c .before .before .before .before .before .before .before .before .before .before .before .before .before .before .before .read-line .ensures) ∙ ap lineOf (c .before .before .before .before .before .before .before .before .before .before .before .before .before .asked .given .1)) (omega (arith, c .before .before .before .before .before .before .before .before .before .before .before .before .before .before .before .before .before .before .before .before .before .good .1 .1 .1 .1 .1 .1 .1 .0 .1 .1 .1 .0 .1)) (c .before .before .before .before .before .before .before .request .result) _ _ _ (c .before .before .before .before .before .before .before .request .ensures) (c .answer-line .ensures)
+    let a = c .before .before .before .before .before .before .before .before .before .before .before .before .before .before .before .before .before .before .before .before .before .before .args in
+    stepped-request (a .text .now) (registerOf (a .logins) (a .classes .now) (a .clients .now)) (a .persons .now) (a .place) (a .matrix .now) (logOf (a .log .now) (a .tail)) _ _ _ _ (sym (c .before .before .before .before .before .before .before .before .before .before .before .before .before .before .before .read-line .ensures) ∙ ap lineOf (c .before .before .before .before .before .before .before .before .before .before .before .before .before .asked .given .1)) (omega (arith, c .before .before .before .before .before .before .before .before .before .before .before .before .before .before .before .before .before .before .before .before .before .before .good .1 .1 .1 .1 .1 .1 .1 .1 .0 .1 .1 .1 .0 .1)) (c .before .before .before .before .before .before .before .request .result) _ _ _ (c .before .before .before .before .before .before .before .request .ensures) (c .answer-line .ensures)
 
 returns-2 : tie.Need-returns-2
 returns-2 c =
-    let a = c .before .before .before .before .before .before .before .before .args in
-    rw (c .ending .ensures, stepped-over (a .text .now) (registerOf (a .logins) (a .classes .now) (a .clients .now)) (a .place) (a .matrix .now) (logOf (a .log .now) (a .tail)) (rw (← c .before .before .read-line .ensures) (no-request (c .before .before .read-line .result) (c .before .match .keys2))))
+    let a = c .before .before .before .before .before .before .before .before .before .args in
+    rw (c .ending .ensures, stepped-over (a .text .now) (registerOf (a .logins) (a .classes .now) (a .clients .now)) (a .persons .now) (a .place) (a .matrix .now) (logOf (a .log .now) (a .tail)) (rw (← c .before .before .read-line .ensures) (no-request (c .before .before .read-line .result) (c .before .match .keys2))))
 
 pub step-spec : {M : Type 1} → statement M
 step-spec =
