@@ -7,11 +7,11 @@ use Rattle.desk.proofs.run.Statement.{statement}
 use Rattle.desk.proofs.run.Tie as tie
 
 abbrev Inv-loop : tie.InvT-loop
-Inv-loop input place logins classes clients matrix₀ log₀ at₀ tail₀ counter₀ end matrix log at tail counter =
+Inv-loop input place logins classes clients persons matrix₀ log₀ at₀ tail₀ counter₀ end matrix log at tail counter =
     (length matrix ≡ length matrix₀) × (length log ≡ length log₀) × (counter ≤ end)
 
 abbrev μ-loop : tie.MeasureT-loop
-μ-loop input place logins classes clients matrix₀ log₀ at₀ tail₀ counter₀ end matrix log at tail counter =
+μ-loop input place logins classes clients persons matrix₀ log₀ at₀ tail₀ counter₀ end matrix log at tail counter =
     end - counter
 
 loop-holds : tie.Need-loop-holds Inv-loop μ-loop

@@ -4,6 +4,9 @@ use borrow.Author.Needs.{needs}
 use Rattle.desk.proofs.serve.Statement.{statement}
 use Rattle.desk.proofs.serve.Tie as tie
 
+own-numbers-requires : tie.Need-own-numbers-requires
+own-numbers-requires c κs = search needs
+
 returns : tie.Need-returns
 returns c = search needs
 
@@ -35,12 +38,21 @@ part-run-end-2 c = search needs
 sub-run-3 : tie.Need-sub-run-3
 sub-run-3 c = search needs
 
+part-run-start-3 : tie.Need-part-run-start-3
+part-run-start-3 c = search needs
+
+part-run-end-3 : tie.Need-part-run-end-3
+part-run-end-3 c = search needs
+
+sub-run-4 : tie.Need-sub-run-4
+sub-run-4 c = search needs
+
 part-matrix-start : tie.Need-part-matrix-start
 part-matrix-start c = search needs
 
 part-matrix-end : tie.Need-part-matrix-end
 part-matrix-end c =
-    search (needs, product-fits (c .before .before .before .before .if2 .left) (c .before .before .before .before .before .if1 .left))
+    search (needs, product-fits (c .before .before .before .before .before .before .if2 .left) (c .before .before .before .before .before .before .before .if1 .left))
 
 slice-aggregate-run : tie.Need-slice-aggregate-run
 slice-aggregate-run c = search needs
@@ -55,6 +67,7 @@ pub serve-spec : {M : Type 1} → statement M
 serve-spec =
     tie.close
     (tie.spec
+    own-numbers-requires
     returns
     returns-2
     mul-cells
@@ -65,6 +78,9 @@ serve-spec =
     part-run-start-2
     part-run-end-2
     sub-run-3
+    part-run-start-3
+    part-run-end-3
+    sub-run-4
     part-matrix-start
     part-matrix-end
     slice-aggregate-run
