@@ -32,7 +32,7 @@
  *   It has no state: calls may run at the same time unless one of them writes a buffer that another uses.
  *   A length may be 0, and then nothing is read or written through the pointer. Pass a pointer that is not null and is aligned
  *   even then (any object of the element's type will do): compiled code may assume it. So too `firsts` and `seconds` in class mode,
- *   where `clients, 0, clients, 0` will do. In an hc_house, and only there, a list of length 0 may be null.
+ *   where `clients, 0, clients, 0` will do. Only in an hc_house may a list of length 0 be null.
  *   A buffer that is written overlaps with no other list or buffer of the same call. No length is above PTRDIFF_MAX bytes.
  *
  * ANSWERS
@@ -265,8 +265,8 @@ hc_reply hc_request(size_t logins, const uint16_t *classes, size_t classes_len, 
 
 /*
  * What a house keeps throughout, in the order in which the calls take it; the two calls over it answer and leave what the plain ones
- * do. A list of length 0 may be null here, and they hand on a pointer that is not: a house that goes by classes may leave the pairs out.
- * No house may leave the person list out: every request would get 10 or an answer that comes before it.
+ * do. A list of length 0 may be null here, and they hand on a pointer that is not: a house that goes by classes may leave the pairs
+ * out. The person list may not be left out: no request would be served.
  */
 typedef struct {
     size_t logins;
