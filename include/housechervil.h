@@ -10,15 +10,19 @@
  * THE HOUSE
  *   Logins are numbered from 0; there are P of them, 1 to 128: the parameter `logins`. Folders are numbered from 0; there are F of
  *   them, 1 to 512: the common length of the lists of classes and clients.
+ *   Requests are made by logins, and records keep the login; rights are held by persons, numbered from 0 too. The person list gives
+ *   each login's person, a number below P, in login order. Several logins may be one person's, who has one wall behind them all; a
+ *   person may have no login. Where each login is its own person the list is 0, 1, 2 and so on (hc_own_persons).
  *   The register gives each folder a class and a client, 0 to 65,535, in two lists in folder order. Client 0 with class 0 marks a
  *   sanitised folder; neither 0 may stand without the other. Two folders of one client have one class.
  *   The mode says which clients are in conflict. By classes (HC_BY_CLASSES): two different clients of one class; the lists of pairs
  *   are not looked at. By pairs (HC_BY_PAIRS, and every other mode that is not 0): two clients that some pair names both, whichever
  *   way round, and no others; classes then count for nothing but the register's own check. A pair is an entry of `firsts` with the
  *   entry of `seconds` at the same place; there are 0 to 256. A pair may stand there twice, either way round, and its clients need
- *   not have folders. Sanitised folders are in conflict with none. The wall is proved for a house that keeps its labels, mode and
- *   pairs from the blank matrix on.
- *   The matrix has P times F bytes, login by login. A cell is 0 for no right, 1 for read, 2 for write, 3 for both; blank is all 0.
+ *   not have folders. Sanitised folders are in conflict with none.
+ *   The matrix has P times F bytes, person by person; the F cells of a person are a row. A cell is 0 for no right, 1 for read, 2 for
+ *   write, 3 for both; blank is all 0.
+ *   The wall is proved for a house that keeps its labels, mode, pairs and person list from the blank matrix on.
  *   The log is a lent buffer with an end, the place where the next record goes: 0 in an empty log.
  *   Serials number the records; the caller gives the first, and each reply gives the next. After 65,535 comes 0.
  *
@@ -28,7 +32,7 @@
  *   It has no state: calls may run at the same time unless one of them writes a buffer that another uses.
  *   A length may be 0, and then nothing is read or written through the pointer. Pass a pointer that is not null and is aligned
  *   even then (any object of the element's type will do): compiled code may assume it. So too `firsts` and `seconds` in class mode,
- *   where `clients, 0, clients, 0` will do.
+ *   where `clients, 0, clients, 0` will do. Only in an hc_house may a list of length 0 be null.
  *   A buffer that is written overlaps with no other list or buffer of the same call. No length is above PTRDIFF_MAX bytes.
  *
  * ANSWERS
@@ -89,6 +93,7 @@
 #define HC_NO_KIND 7
 #define HC_ROW_CELL 8
 #define HC_LOG_END_PAST_BUFFER 9
+#define HC_BAD_PERSONS 10
 #define HC_BAD_PAIRS 11
 #define HC_RIVAL 20
 #define HC_FOREIGN 21
@@ -134,11 +139,12 @@ __attribute__((unused)) static inline const char *hc_answer_words(uint16_t numbe
     case HC_NO_LOGIN: return "there is no such login";
     case HC_NO_FOLDER: return "there is no such folder";
     case HC_NO_KIND: return "there is no such kind of request";
-    case HC_ROW_CELL: return "a cell of the login's row is above 3";
+    case HC_ROW_CELL: return "a cell of the person's row is above 3";
     case HC_LOG_END_PAST_BUFFER: return "the log's end lies past its buffer";
+    case HC_BAD_PERSONS: return "the person list's length is not the number of logins, or an entry is not below it";
     case HC_BAD_PAIRS: return "over 256 pairs, their lists of unequal length, or a pair with client 0 or one client twice";
-    case HC_RIVAL: return "the login may read a folder of a rival";
-    case HC_FOREIGN: return "the login may read a folder of another client";
+    case HC_RIVAL: return "the person may read a folder of a rival";
+    case HC_FOREIGN: return "the person may read a folder of another client";
     case HC_AT_STAKE: return "a write right would be lost";
     case HC_LOG_FULL: return "the record is longer than the room left in the log";
     case HC_LOG_PLACE_PAST_END: return "the place is past the log's end";
@@ -185,7 +191,8 @@ extern "C" {
  *   11      by pairs, and their lists are of unequal length, there are
  *           over 256 pairs, or a pair names client 0 or one client twice
  *
- * Refusal 2 is sought through the whole register before 3. In class mode 11 is not given, whatever the lists of pairs hold.
+ * Refusal 2 is sought through the whole register before 3. In class mode 11 is not given, whatever the lists of pairs hold. The
+ * person list is no part of the register: a request judges it (10).
  */
 typedef struct {
     uint16_t number, first, second;
@@ -198,12 +205,13 @@ hc_register_answer hc_register_check(size_t logins, const uint16_t *classes, siz
 /* ---- the request */
 
 /*
- * A request of `login` for `folder`. The kinds are HC_READ, HC_CAREFUL_READ, HC_WRITE and HC_READ_AND_WRITE, 1 to 4.
+ * A request of `login` for `folder`. The kinds are HC_READ, HC_CAREFUL_READ, HC_WRITE and HC_READ_AND_WRITE, 1 to 4. `persons` is
+ * the person list, and 'the person' below is the one that it gives for `login`.
  *
- *   Rival: a folder that the login may read, of a client in conflict with the asked folder's. By classes that is a folder of the
+ *   Rival: a folder that the person may read, of a client in conflict with the asked folder's. By classes that is a folder of the
  *   asked folder's class and of another client; by pairs, one whose client a pair names together with the asked folder's.
- *   Foreign: a folder that the login may read, not sanitised, whose client is not the asked folder's, in conflict or not.
- *   At stake: a folder that the login may write, whose client is not the asked folder's; there are none if the asked
+ *   Foreign: a folder that the person may read, not sanitised, whose client is not the asked folder's, in conflict or not.
+ *   At stake: a folder that the person may write, whose client is not the asked folder's; there are none if the asked
  *   folder is sanitised. A sanitised folder that is at stake loses its write right like any other.
  *
  *   kind  granted if there is            on a grant
@@ -223,9 +231,11 @@ hc_register_answer hc_register_check(size_t logins, const uint16_t *classes, siz
  *           has it
  *   4       the matrix's length is not P times F
  *   5       login is P or more
+ *   10      the person list's length is not P, or some entry, this
+ *           login's or another's, is P or more
  *   6       folder is F or more
  *   7       kind is not 1 to 4
- *   8       a cell of this login's row exceeds 3                            first: its folder
+ *   8       a cell of the person's row exceeds 3                            first: its folder
  *   9       the log's end lies past its buffer
  *   20      a rival exists                                                  first: it
  *   21      kind 3 or 4, a foreign folder exists                            first: it
@@ -235,9 +245,9 @@ hc_register_answer hc_register_check(size_t logins, const uint16_t *classes, siz
  *           decision is not told
  *
  * `end` and `serial` are the log's new end and the next serial: hand them to the next request.
- *   0               changes the login's row of the matrix and appends a record to the log
- *   20, 21, 22      leave the matrix and append a record
- *   1 to 9, 11, 30  change no byte, and return end and serial as they came
+ *   0            changes the person's row of the matrix and appends a record, under the login, to the log
+ *   20, 21, 22   leave the matrix and append a record, under the login
+ *   1 to 11, 30  change no byte, and return end and serial as they came
  * Log bytes outside the new record stay.
  */
 typedef struct {
@@ -248,8 +258,70 @@ typedef struct {
 
 hc_reply hc_request(size_t logins, const uint16_t *classes, size_t classes_len, const uint16_t *clients, size_t clients_len,
                     uint8_t mode, const uint16_t *firsts, size_t firsts_len, const uint16_t *seconds, size_t seconds_len,
-                    uint8_t *matrix, size_t matrix_len, uint16_t login, uint16_t folder, uint16_t kind, uint8_t *log, size_t log_len,
-                    size_t end, uint16_t serial);
+                    const uint16_t *persons, size_t persons_len, uint8_t *matrix, size_t matrix_len, uint16_t login,
+                    uint16_t folder, uint16_t kind, uint8_t *log, size_t log_len, size_t end, uint16_t serial);
+
+/* ---- the house in one struct, filled once */
+
+/*
+ * What a house keeps throughout, in the order in which the calls take it; the two calls over it answer and leave what the plain ones
+ * do. A list of length 0 may be null here, and they hand on a pointer that is not: a house that goes by classes may leave the pairs
+ * out. The person list may not be left out: no request would be served.
+ */
+typedef struct {
+    size_t logins;
+    const uint16_t *classes;
+    size_t classes_len;
+    const uint16_t *clients;
+    size_t clients_len;
+    uint8_t mode;
+    const uint16_t *firsts;
+    size_t firsts_len;
+    const uint16_t *seconds;
+    size_t seconds_len;
+    const uint16_t *persons;
+    size_t persons_len;
+} hc_house;
+
+/* Fills a person list with each login's own number: each login its own person. */
+__attribute__((unused)) static inline void hc_own_persons(uint16_t *persons, size_t persons_len)
+{
+    uint16_t login = 0;
+
+    for (size_t i = 0; i < persons_len; i++) {
+        persons[i] = login++;
+    }
+}
+
+/* The pointer that is handed on for a list of a house. */
+__attribute__((unused)) static inline const uint16_t *hc_house_list(const uint16_t *list, size_t len)
+{
+    static const uint16_t empty = 0;
+
+    return len == 0 ? &empty : list;
+}
+
+/* hc_register_check of a house. */
+__attribute__((unused)) static inline hc_register_answer hc_house_check(const hc_house *house)
+{
+    return hc_register_check(house->logins, hc_house_list(house->classes, house->classes_len), house->classes_len,
+                             hc_house_list(house->clients, house->clients_len), house->clients_len, house->mode,
+                             hc_house_list(house->firsts, house->firsts_len), house->firsts_len,
+                             hc_house_list(house->seconds, house->seconds_len), house->seconds_len);
+}
+
+/* hc_request in a house. */
+__attribute__((unused)) static inline hc_reply hc_house_request(const hc_house *house, uint8_t *matrix, size_t matrix_len,
+                                                                uint16_t login, uint16_t folder, uint16_t kind, uint8_t *log,
+                                                                size_t log_len, size_t end, uint16_t serial)
+{
+    return hc_request(house->logins, hc_house_list(house->classes, house->classes_len), house->classes_len,
+                      hc_house_list(house->clients, house->clients_len), house->clients_len, house->mode,
+                      hc_house_list(house->firsts, house->firsts_len), house->firsts_len,
+                      hc_house_list(house->seconds, house->seconds_len), house->seconds_len,
+                      hc_house_list(house->persons, house->persons_len), house->persons_len, matrix, matrix_len, login, folder,
+                      kind, log, log_len, end, serial);
+}
 
 /* ---- serials */
 

@@ -5,8 +5,9 @@
 
 #include "housechervil.h"
 
-/* The mode of these cases, with lists of no pairs; pairs.c has the others. */
+/* The mode of these cases, with lists of no pairs; pairs.c has the others. Each login is its own person; persons.c has others. */
 #define BY_CLASSES(any) HC_BY_CLASSES, any, 0, any, 0
+static uint16_t own[HC_LOGINS_MAX + 1];
 
 static void list(const char *name, const uint8_t *bytes, size_t n) {
     printf("%s", name);
@@ -39,7 +40,8 @@ static const uint16_t table_classes[5] = {0, 1, 1, 2, 1};
 static const uint16_t table_clients[5] = {0, 1, 2, 3, 1};
 
 static hc_reply ask_table(uint8_t matrix[10], uint16_t login, uint16_t folder, uint16_t kind, uint8_t *log, size_t log_len, size_t end, uint16_t serial) {
-    return hc_request(2, table_classes, 5, table_clients, 5, BY_CLASSES(table_clients), matrix, 10, login, folder, kind, log, log_len, end, serial);
+    return hc_request(2, table_classes, 5, table_clients, 5, BY_CLASSES(table_clients), own, 2, matrix, 10, login, folder, kind, log, log_len,
+                      end, serial);
 }
 
 typedef struct {
@@ -142,7 +144,8 @@ static void check(const char *name, size_t logins, const uint16_t *classes, size
     } else {
         answer(v.number, v.first, v.second, 0);
     }
-    tell(hc_request(logins, classes, classes_len, clients, clients_len, BY_CLASSES(clients), matrix, size, 0, 0, HC_READ, log, sizeof log, 0, 0));
+    tell(hc_request(logins, classes, classes_len, clients, clients_len, BY_CLASSES(clients), own, logins, matrix, size, 0, 0, HC_READ, log,
+                    sizeof log, 0, 0));
     printf("\n");
 }
 
@@ -183,7 +186,8 @@ static void largest(const char *name, uint16_t login, uint16_t folder) {
     memset(matrix, 0, sizeof matrix);
     memset(log, 170, sizeof log);
     for (size_t i = 0; i < 512; i++) ones[i] = 1;
-    hc_reply r = hc_request(128, ones, 512, ones, 512, BY_CLASSES(ones), matrix, sizeof matrix, login, folder, HC_READ_AND_WRITE, log, sizeof log, 0, 0);
+    hc_reply r = hc_request(128, ones, 512, ones, 512, BY_CLASSES(ones), own, 128, matrix, sizeof matrix, login, folder, HC_READ_AND_WRITE, log,
+                            sizeof log, 0, 0);
     printf("%s", name);
     tell(r);
     list(" cells", matrix + 65534, 2);
@@ -198,7 +202,7 @@ static void longest(const char *name, size_t end) {
     for (size_t i = 0; i < 512; i++) labels[i] = i == 511 ? 2 : 1;
     memset(matrix, 2, sizeof matrix);
     memset(log, 170, sizeof log);
-    hc_reply r = hc_request(1, labels, 512, labels, 512, BY_CLASSES(labels), matrix, 512, 0, 511, HC_READ, log, sizeof log, end, 65535);
+    hc_reply r = hc_request(1, labels, 512, labels, 512, BY_CLASSES(labels), own, 1, matrix, 512, 0, 511, HC_READ, log, sizeof log, end, 65535);
     printf("%s", name);
     tell(r);
     list(" cells", matrix, 4);
@@ -245,6 +249,7 @@ static void table(void) {
 }
 
 int main(void) {
+    hc_own_persons(own, sizeof own / sizeof own[0]);
     for (size_t i = 0; i < sizeof asks / sizeof asks[0]; i++) ask(asks[i]);
     registers();
     largest("login 127 of 128", 127, 511);

@@ -37,7 +37,7 @@ typedef struct {
     size_t logins;
     uint16_t classes[5], clients[5];
     uint8_t mode;
-    uint16_t firsts[1], seconds[1];
+    uint16_t firsts[1], seconds[1], persons[2];
     uint8_t matrix[10];
     size_t matrix_len;
     uint16_t login, folder, kind;
@@ -45,9 +45,10 @@ typedef struct {
     size_t end;
 } call;
 
-/* Login 0 of 2 asks to read folder 1, on a blank matrix and an empty log, by classes. By pairs, clients 1 and 3 are in conflict. */
+/* Login 0 of 2, each its own person, asks to read folder 1, on a blank matrix and an empty log, by classes. By pairs, clients 1 and 3 are
+   in conflict. */
 static call granted(void) {
-    call c = {.logins = 2, .firsts = {1}, .seconds = {3}, .matrix_len = 10, .folder = 1, .kind = HC_READ};
+    call c = {.logins = 2, .firsts = {1}, .seconds = {3}, .persons = {0, 1}, .matrix_len = 10, .folder = 1, .kind = HC_READ};
     memcpy(c.classes, table_classes, sizeof c.classes);
     memcpy(c.clients, table_clients, sizeof c.clients);
     return c;
@@ -58,8 +59,8 @@ static unsigned check(call c) {
 }
 
 static hc_reply make(call *c) {
-    return hc_request(c->logins, c->classes, 5, c->clients, 5, c->mode, c->firsts, 1, c->seconds, 1, c->matrix, c->matrix_len,
-                      c->login, c->folder, c->kind, c->log, sizeof c->log, c->end, 0);
+    return hc_request(c->logins, c->classes, 5, c->clients, 5, c->mode, c->firsts, 1, c->seconds, 1, c->persons, 2, c->matrix,
+                      c->matrix_len, c->login, c->folder, c->kind, c->log, sizeof c->log, c->end, 0);
 }
 
 static unsigned ask(call c) {
@@ -106,7 +107,7 @@ static void mode_names(void) {
     mode("HC_BY_PAIRS", HC_BY_PAIRS, 3);
 }
 
-/* Refusals 4 to 9. */
+/* Refusals 4 to 10. */
 static void request_names(void) {
     call c = granted();
     WORDED(HC_GRANTED, ask(c));
@@ -115,6 +116,9 @@ static void request_names(void) {
     c = granted();
     c.login = 2;
     WORDED(HC_NO_LOGIN, ask(c));
+    c = granted();
+    c.persons[1] = 2;
+    WORDED(HC_BAD_PERSONS, ask(c));
     c = granted();
     c.folder = 5;
     WORDED(HC_NO_FOLDER, ask(c));

@@ -36,6 +36,7 @@ enum { AUTHOR = 7, READER = 8, OTHER = 9, STRANGER = 5 };
 
 static const uint16_t house_classes[6] = {0, 1, 1, 1, 2, 1};
 static const uint16_t house_clients[6] = {0, AUTHOR, READER, OTHER, STRANGER, AUTHOR};
+static const uint16_t persons[2] = {0, 1};
 
 typedef struct {
     uint8_t mode;
@@ -66,7 +67,7 @@ static result between(call c, uint16_t first_guard, uint16_t second_guard) {
     r.check = hc_register_check(2, c.classes, 6, c.clients, 6, c.mode, firsts.lent + GUARD, c.firsts.len, seconds.lent + GUARD,
                                 c.seconds.len);
     r.reply = hc_request(2, c.classes, 6, c.clients, 6, c.mode, firsts.lent + GUARD, c.firsts.len, seconds.lent + GUARD, c.seconds.len,
-                         r.cells, c.cells_len, c.login, c.folder, c.kind, r.log, sizeof r.log, c.end, c.serial);
+                         persons, 2, r.cells, c.cells_len, c.login, c.folder, c.kind, r.log, sizeof r.log, c.end, c.serial);
     r.changed = memcmp(firsts.lent, firsts.left, sizeof firsts.lent) || memcmp(seconds.lent, seconds.left, sizeof seconds.lent);
     return r;
 }

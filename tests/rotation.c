@@ -8,6 +8,9 @@
 
 static const uint16_t classes[5] = {0, 1, 1, 2, 1};
 static const uint16_t clients[5] = {0, 1, 2, 3, 1};
+static const uint16_t persons[2] = {0, 1};
+static const hc_house house = {
+    .logins = 2, .classes = classes, .classes_len = 5, .clients = clients, .clients_len = 5, .persons = persons, .persons_len = 2};
 
 static uint8_t matrix[2 * 5];
 static uint8_t log_bytes[16];
@@ -25,8 +28,7 @@ static void rotate(void) {
 }
 
 static hc_reply request(uint16_t login, uint16_t kind, uint16_t folder) {
-    hc_reply r = hc_request(2, classes, 5, clients, 5, HC_BY_CLASSES, clients, 0, clients, 0, matrix, sizeof matrix, login, folder, kind,
-                            log_bytes, sizeof log_bytes, end, serial);
+    hc_reply r = hc_house_request(&house, matrix, sizeof matrix, login, folder, kind, log_bytes, sizeof log_bytes, end, serial);
     printf("%u asks for %u, %s: %u %s", login, folder, hc_kind_words(kind), r.number, hc_answer_words(r.number));
     if (r.number == HC_GRANTED) printf(", %u taken back", r.count);
     if (r.number == HC_RIVAL || r.number == HC_FOREIGN || r.number == HC_AT_STAKE) printf(", folder %u", r.first);

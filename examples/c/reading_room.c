@@ -1,6 +1,6 @@
 /*
  * A small reading room: it prints the board, files a register, asks for folders, prints each answer in words and then the log. At the
- * end stands a second room, whose conflicts are by pair.
+ * end stand two more rooms: one whose conflicts are by pair, and one where a person has two logins.
  *
  *     rt staticlib housechervil
  *     make -C examples/c check
@@ -24,8 +24,21 @@ static const char *const kind_names[] = {
 /* Class 1 is the banks, class 2 the oil companies; folder 0 is sanitised. */
 static const uint16_t classes[FOLDERS] = {0, 1, 1, 2, 1};
 static const uint16_t clients[FOLDERS] = {0, 1, 2, 3, 1};
+static const uint16_t persons[LOGINS] = {0, 1}; /* Ada and Ben are two persons */
 
-/* What the room keeps: the rights, and the log with its end and the next serial. */
+/* What the house keeps throughout. It goes by classes, so it has no pairs. */
+static const hc_house house = {
+    .logins = LOGINS,
+    .classes = classes,
+    .classes_len = FOLDERS,
+    .clients = clients,
+    .clients_len = FOLDERS,
+    .mode = HC_BY_CLASSES,
+    .persons = persons,
+    .persons_len = LOGINS,
+};
+
+/* What changes in the room: the rights, and the log with its end and the next serial. */
 typedef struct {
     uint8_t matrix[LOGINS * FOLDERS];
     uint8_t log[4096];
@@ -98,9 +111,9 @@ static void print_board(void)
 
 /* ---- the register */
 
-static void file_register(const char *title, const uint16_t *class_list, const uint16_t *client_list)
+static void file_register(const char *title, const hc_house *filed)
 {
-    hc_register_answer a = hc_register_check(LOGINS, class_list, FOLDERS, client_list, FOLDERS, HC_BY_CLASSES, clients, 0, clients, 0);
+    hc_register_answer a = hc_house_check(filed);
 
     printf("%s: ", title);
     switch (a.number) {
@@ -161,8 +174,8 @@ static void print_answer(hc_reply r)
 
 static void ask(room *here, uint16_t login, uint16_t kind, uint16_t folder)
 {
-    hc_reply r = hc_request(LOGINS, classes, FOLDERS, clients, FOLDERS, HC_BY_CLASSES, clients, 0, clients, 0, here->matrix,
-                            sizeof here->matrix, login, folder, kind, here->log, sizeof here->log, here->end, here->serial);
+    hc_reply r = hc_house_request(&house, here->matrix, sizeof here->matrix, login, folder, kind, here->log, sizeof here->log,
+                                  here->end, here->serial);
 
     here->end = r.end;
     here->serial = r.serial;
@@ -209,7 +222,16 @@ static void print_log(const room *here)
     }
 }
 
-/* ---- conflicts by pair */
+/* ---- rooms whose files have names of their own */
+
+static void print_read(const char *who, const char *const *files, uint16_t file, hc_reply r)
+{
+    printf("%s asks to read '%s': %s", who, files[file], r.number == HC_GRANTED ? "granted" : "refused");
+    if (r.number == HC_RIVAL) {
+        printf(", '%s' of a rival is open to this login", files[r.first]);
+    }
+    printf("\n");
+}
 
 /*
  * The files of an author and of two readers: each reader is in conflict with the author, not with the other reader. No classes can say
@@ -222,25 +244,51 @@ static void read_all(const char *title, uint8_t mode)
     static const uint16_t one_class[FILES] = {1, 1, 1}, client[FILES] = {DALE, ELM, FIR};
     static const uint16_t firsts[PAIRS] = {DALE, DALE}, seconds[PAIRS] = {ELM, FIR};
     static const uint16_t order[FILES] = {1, 2, 0};
+    const hc_house journal = {
+        .logins = 1, .classes = one_class, .classes_len = FILES, .clients = client, .clients_len = FILES,
+        .mode = mode, .firsts = firsts, .firsts_len = PAIRS, .seconds = seconds, .seconds_len = PAIRS,
+        .persons = persons, .persons_len = 1,
+    };
     uint8_t matrix[FILES] = {0}, log[64];
     hc_reply r = {0};
 
     printf("%s:\n", title);
     for (size_t i = 0; i < FILES; i++) {
-        r = hc_request(1, one_class, FILES, client, FILES, mode, firsts, PAIRS, seconds, PAIRS, matrix, sizeof matrix, 0, order[i], HC_READ,
-                       log, sizeof log, r.end, r.serial);
-        printf("%s asks to read '%s': %s", login_names[0], files[order[i]], r.number == HC_GRANTED ? "granted" : "refused");
-        if (r.number == HC_RIVAL) {
-            printf(", '%s' of a rival is open to this login", files[r.first]);
-        }
-        printf("\n");
+        r = hc_house_request(&journal, matrix, sizeof matrix, 0, order[i], HC_READ, log, sizeof log, r.end, r.serial);
+        print_read(login_names[0], files, order[i], r);
+    }
+}
+
+/*
+ * A partner's desk login and travel login, and the files of two banks. Which person is behind a login is told by the list: two persons
+ * have a wall each, so that the partner comes to know both banks; one person has one wall, whichever login asks.
+ */
+static void read_both(const char *title, const uint16_t *person_list)
+{
+    enum { BOTH = 2, FILES = 2, ASTER = 1, BIRCH = 2 };
+    static const char *const logins[BOTH] = {"the desk login", "the travel login"};
+    static const char *const files[FILES] = {"Aster Bank, loans", "Birch Bank, merger"};
+    static const uint16_t banks[FILES] = {1, 1}, client[FILES] = {ASTER, BIRCH};
+    const hc_house firm = {
+        .logins = BOTH, .classes = banks, .classes_len = FILES, .clients = client, .clients_len = FILES,
+        .persons = person_list, .persons_len = BOTH,
+    };
+    uint8_t matrix[BOTH * FILES] = {0}, log[64];
+    hc_reply r = {0};
+
+    printf("%s:\n", title);
+    for (uint16_t i = 0; i < BOTH; i++) {
+        r = hc_house_request(&firm, matrix, sizeof matrix, i, i, HC_READ, log, sizeof log, r.end, r.serial);
+        print_read(logins[i], files, i, r);
     }
 }
 
 int main(int argc, char **argv)
 {
     static const uint16_t slip[FOLDERS] = {0, 1, 1, 2, 2}; /* Aster Bank among the banks, then among the oil companies */
-    static room here;                                       /* blank: no rights, no records, the first serial is 0 */
+    static const uint16_t own_persons[] = {0, 1}, one_person[] = {0, 0};
+    static room here; /* blank: no rights, no records, the first serial is 0 */
+    hc_house slipped = house;
 
     if (argc != 3) {
         fprintf(stderr, "usage: reading_room HOUSE CLIENT, two texts of folder names, one to a line in folder order\n");
@@ -251,8 +299,9 @@ int main(int argc, char **argv)
     }
     print_board();
 
-    file_register("the first register", slip, clients);
-    file_register("the mended register", classes, clients);
+    slipped.classes = slip;
+    file_register("the first register", &slipped);
+    file_register("the mended register", &house);
 
     ask(&here, 0, HC_WRITE, 1);
     ask(&here, 0, HC_WRITE, 3);
@@ -270,5 +319,8 @@ int main(int argc, char **argv)
 
     read_all("an author and two readers, by classes", HC_BY_CLASSES);
     read_all("the same, each reader in a pair with the author", HC_BY_PAIRS);
+
+    read_both("a partner's desk and travel login, each its own person", own_persons);
+    read_both("the same, both logins one person's", one_person);
     return 0;
 }
