@@ -50,8 +50,10 @@ number_type! {
     /// let room = Room::builder(2, &[(ClassNo(1), ClientNo(1))]).persons([LoginNo(0), LoginNo(0)]).open();
     /// ```
     ///
+    /// nor does it the other way round:
+    ///
     /// ```compile_fail,E0308
-    /// use housechervil::{FolderNo, Kind, LoginNo, PersonNo, Request};
+    /// use housechervil::{FolderNo, Kind, PersonNo, Request};
     ///
     /// let request = Request::new(PersonNo(0), FolderNo(0), Kind::Read);
     /// ```

@@ -206,11 +206,11 @@ impl Error for Refusal {
 impl Register<'_> {
     /// A request, on a matrix and a log that are lent.
     ///
-    /// `persons` has the person of each login. `matrix` has one cell for each person and folder, person by person, and as many persons
-    /// as there are logins; blank means all 0. What the login's person may do decides, through whichever login that came; persons need
-    /// not all be used. `log` is written from `end` on, and `serial` is the serial that the record gets, which names the login. A grant
-    /// and the refusals 20, 21 and 22 append a record; the reply has the log's new end and the next serial. Any other refusal changes
-    /// no byte and returns end and serial as they came.
+    /// `persons` has the person of each login. `matrix` has one cell for each person and folder, person by person, and as many
+    /// persons as there are logins; blank means all 0. What the login's person may do decides, through whichever login that came;
+    /// persons need not all be used. `log` is written from `end` on, and `serial` is the serial that the record gets, which names the
+    /// login. A grant and the refusals 20, 21 and 22 append a record; the reply has the log's new end and the next serial. Any other
+    /// refusal changes no byte and returns end and serial as they came.
     ///
     /// ```
     /// use housechervil::{
