@@ -1,5 +1,5 @@
 //! A small reading room: it prints the board, files a register, asks, prints the answers in words, and prints the log. At the end
-//! stands a second room, whose conflicts are by pair.
+//! stand a second room, whose conflicts are by pair, and a third, in which two logins are one person's.
 //!
 //! Run it with `cargo run --example reading_room`; its output is kept in `reading_room.stdout`.
 
@@ -7,8 +7,8 @@ use std::error::Error;
 use std::io::{self, Write};
 
 use housechervil::{
-    check_log, folder_name, pack, ClassNo, ClientNo, Conflicts, FolderNo, Granted, Kind, LoginNo, Record, Refusal,
-    Room, Serial, Verdict,
+    check_log, folder_name, pack, ClassNo, ClientNo, Conflicts, FolderNo, Granted, Kind, LoginNo, PersonNo, Record,
+    Refusal, Room, Verdict,
 };
 
 const READERS: [&str; 2] = ["Ada", "Ben"];
@@ -47,14 +47,14 @@ pub fn run(out: &mut dyn Write) -> Result<(), Box<dyn Error>> {
 
     // The filing clerk's first draft has a slip: of one bank's two folders, the staff's stands in another class than the loans'.
     writeln!(out)?;
-    let mut labels = FOLDERS.map(|(class, client)| (ClassNo(class), ClientNo(client)));
+    let mut labels = labels();
     labels[4].0 = ClassNo(2);
     writeln!(out, "The clerk files the register.")?;
-    if let Err(error) = Room::new(READERS.len(), &labels, Conflicts::ByClass, 4096, Serial(0)) {
+    if let Err(error) = Room::builder(READERS.len(), &labels).open() {
         writeln!(out, "It is refused ({}): {error}.", error.number())?;
     }
     labels[4].0 = ClassNo(1);
-    let mut room = Room::new(READERS.len(), &labels, Conflicts::ByClass, 4096, Serial(0))?;
+    let mut room = Room::builder(READERS.len(), &labels).open()?;
     writeln!(out, "Put right, it is accepted: {} readers, {} folders.", READERS.len(), FOLDERS.len())?;
 
     writeln!(out)?;
@@ -97,7 +97,12 @@ pub fn run(out: &mut dyn Write) -> Result<(), Box<dyn Error>> {
     }
     writeln!(out, "Packed for the night: {:?}.", pack(room.matrix())?)?;
 
-    author_and_readers(out)
+    author_and_readers(out)?;
+    desk_and_travel(out)
+}
+
+fn labels() -> [(ClassNo, ClientNo); FOLDERS.len()] {
+    FOLDERS.map(|(class, client)| (ClassNo(class), ClientNo(client)))
 }
 
 /// The files of an author and of two readers: each reader is in conflict with the author, not with the other reader. No classes can say
@@ -112,7 +117,7 @@ fn author_and_readers(out: &mut dyn Write) -> Result<(), Box<dyn Error>> {
     for (title, conflicts) in houses {
         writeln!(out)?;
         writeln!(out, "{title}:")?;
-        let mut room = Room::new(1, &labels, conflicts, 4096, Serial(0))?;
+        let mut room = Room::builder(1, &labels).conflicts(conflicts).open()?;
         for file in [1, 2, 0] {
             write!(out, "{} asks to read '{}': ", READERS[0], FILES[file])?;
             match room.ask(LoginNo(0), FolderNo(file as u16), Kind::Read) {
@@ -120,6 +125,31 @@ fn author_and_readers(out: &mut dyn Write) -> Result<(), Box<dyn Error>> {
                 Err(Refusal::Rival { folder }) => {
                     let known = FILES[usize::from(folder)];
                     writeln!(out, "refused, since {} knows '{known}', of a rival.", READERS[0])?;
+                }
+                Err(other) => return Err(other.into()),
+            }
+        }
+    }
+    Ok(())
+}
+
+/// A partner has a login for the desk and one for journeys. If each counts as a person, one head comes to know both banks; if both are one
+/// person's, what was read through one of them counts for the other.
+fn desk_and_travel(out: &mut dyn Write) -> Result<(), Box<dyn Error>> {
+    let houses = [
+        ("a partner's desk and travel login, each its own person", [0, 1]),
+        ("the same, both logins one person's", [0, 0]),
+    ];
+    writeln!(out)?;
+    for (title, persons) in houses {
+        writeln!(out, "{title}:")?;
+        let mut room = Room::builder(2, &labels()).persons(persons.map(PersonNo)).open()?;
+        for (login, place, folder) in [(LoginNo(0), "desk", FolderNo(1)), (LoginNo(1), "travel", FolderNo(2))] {
+            write!(out, "the {place} login asks to read {}: ", quoted(folder))?;
+            match room.ask(login, folder, Kind::Read) {
+                Ok(_) => writeln!(out, "granted")?,
+                Err(Refusal::Rival { folder }) => {
+                    writeln!(out, "refused, {} of a rival is open to this login", quoted(folder))?;
                 }
                 Err(other) => return Err(other.into()),
             }
@@ -141,12 +171,18 @@ fn reader(login: LoginNo) -> &'static str {
     READERS.get(usize::from(login)).copied().unwrap_or("A stranger")
 }
 
-/// A folder's number with its name: the client's if it has one, otherwise the house's.
+/// A folder's number with its name.
 fn name(folder: FolderNo) -> String {
-    match folder_name(CLIENT_NAMES, HOUSE_NAMES, folder) {
-        Some(name) => format!("{folder} '{}'", String::from_utf8_lossy(name)),
-        None => format!("{folder}, which has no name"),
+    match quoted(folder) {
+        quoted if quoted.is_empty() => format!("{folder}, which has no name"),
+        quoted => format!("{folder} {quoted}"),
     }
+}
+
+/// A folder's name: the client's if it has one, otherwise the house's.
+fn quoted(folder: FolderNo) -> String {
+    let name = folder_name(CLIENT_NAMES, HOUSE_NAMES, folder);
+    name.map(|name| format!("'{}'", String::from_utf8_lossy(name))).unwrap_or_default()
 }
 
 /// What the house calls a folder for which the client has another name.

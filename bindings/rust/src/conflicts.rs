@@ -8,23 +8,23 @@ use crate::ClientNo;
 /// with each reader, the readers share it too. Pairs do.
 ///
 /// ```
-/// use housechervil::{ClassNo, ClientNo, Conflicts, FolderNo, Granted, Kind, LoginNo, Refusal, Room, Serial};
+/// use housechervil::{ClassNo, ClientNo, Conflicts, FolderNo, Granted, Kind, LoginNo, Refusal, Room};
 ///
 /// let [author, one, other] = [7, 8, 9].map(ClientNo);
 /// let labels = [author, one, other].map(|client| (ClassNo(1), client)); // a folder of each
 /// let pairs = Conflicts::ByPair([(author, one), (author, other)].into());
 ///
-/// let mut room = Room::new(1, &labels, pairs, 4096, Serial(0))?;
+/// let mut room = Room::builder(1, &labels).conflicts(pairs).open()?;
 /// let mut read = |folder| room.ask(LoginNo(0), FolderNo(folder), Kind::Read);
 /// assert_eq!(read(1), Ok(Granted { taken_back: 0 }));
 /// assert_eq!(read(2), Ok(Granted { taken_back: 0 })); // the readers are not in conflict
 /// assert_eq!(read(0), Err(Refusal::Rival { folder: FolderNo(1) })); // the author is, with each of them
 ///
-/// let mut room = Room::new(1, &labels, Conflicts::ByClass, 4096, Serial(0))?;
+/// let mut room = Room::builder(1, &labels).conflicts(Conflicts::ByClass).open()?;
 /// let mut read = |folder| room.ask(LoginNo(0), FolderNo(folder), Kind::Read);
 /// assert_eq!(read(1), Ok(Granted { taken_back: 0 }));
 /// assert_eq!(read(2), Err(Refusal::Rival { folder: FolderNo(1) })); // of one class
-/// # Ok::<(), housechervil::RegisterError>(())
+/// # Ok::<(), housechervil::OpenError>(())
 /// ```
 #[derive(Clone, Debug, PartialEq, Eq, Hash)]
 pub enum Conflicts {

@@ -34,8 +34,30 @@ macro_rules! number_type {
 }
 
 number_type! {
-    /// A login's number, from 0. Each login counts as one person.
+    /// A login's number, from 0. Whose login it is, the person list tells: see [`PersonNo`].
     LoginNo
+}
+
+number_type! {
+    /// A person's number, from 0 and below the number of logins. The person list gives the person of each login. Rights are a
+    /// person's, whichever of the person's logins they came through; requests and records have the login.
+    ///
+    /// A login number in a person number's place does not build:
+    ///
+    /// ```compile_fail,E0277
+    /// use housechervil::{ClassNo, ClientNo, LoginNo, Room};
+    ///
+    /// let room = Room::builder(2, &[(ClassNo(1), ClientNo(1))]).persons([LoginNo(0), LoginNo(0)]).open();
+    /// ```
+    ///
+    /// nor does it the other way round:
+    ///
+    /// ```compile_fail,E0308
+    /// use housechervil::{FolderNo, Kind, PersonNo, Request};
+    ///
+    /// let request = Request::new(PersonNo(0), FolderNo(0), Kind::Read);
+    /// ```
+    PersonNo
 }
 
 number_type! {
@@ -70,6 +92,7 @@ macro_rules! slices {
 
 slices!(ClassNo);
 slices!(ClientNo);
+slices!(PersonNo);
 
 /// The four kinds of request.
 ///
@@ -197,7 +220,7 @@ impl fmt::Display for KindNo {
     }
 }
 
-/// The rights of one login on one folder: a cell of the matrix.
+/// The rights of one person on one folder: a cell of the matrix.
 #[derive(Clone, Copy, Debug, Default, PartialEq, Eq, Hash)]
 pub struct Rights {
     /// The right to read, which is never taken back.

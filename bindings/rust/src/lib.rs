@@ -13,10 +13,10 @@
 //! belong to two rivals of one class.
 //!
 //! ```
-//! use housechervil::{ClassNo, ClientNo, Conflicts, FolderNo, Granted, Kind, LoginNo, Refusal, Room, Serial, Verdict};
+//! use housechervil::{ClassNo, ClientNo, FolderNo, Granted, Kind, LoginNo, Refusal, Room, Serial, Verdict};
 //!
 //! let labels = [(0, 0), (1, 1), (1, 2), (2, 3), (1, 1)].map(|(class, client)| (ClassNo(class), ClientNo(client)));
-//! let mut room = Room::new(2, &labels, Conflicts::ByClass, 65_536, Serial(0))?;
+//! let mut room = Room::builder(2, &labels).open()?;
 //!
 //! // Login 0 may write for two clients, as long as nothing unsanitised has been read.
 //! assert_eq!(room.ask(LoginNo(0), FolderNo(1), Kind::Write), Ok(Granted { taken_back: 0 }));
@@ -52,10 +52,11 @@
 //!
 //! | Task | Here | C |
 //! |---|---|---|
-//! | a room that keeps its own matrix and log | [`Room`] | |
+//! | a room that keeps its own matrix and log | [`Room`], [`Room::builder`] | |
 //! | a full log taken out of it | [`Room::take_log`] | |
 //! | a room taken apart, and made again of its parts | [`Room::into_parts`], [`Room::resume`] | |
 //! | which clients are in conflict, by class or by pair | [`Conflicts`], [`Pairs`] | the modes and the lists of pairs |
+//! | several logins of one person | [`PersonNo`], [`RoomBuilder::persons`] | the person list |
 //! | the register check | [`Register::check`] | `hc_register_check` |
 //! | a request on lent buffers | [`Register::request`] | `hc_request` |
 //! | the log, record by record | [`Records`], [`read_record`] | `hc_log_step` |
@@ -68,8 +69,8 @@
 //! Every answer has a method `number` with its number in the rules. An answer that stands for a refusal is an
 //! [`Error`](std::error::Error). Only a folder's name has no type of its own: it is a part of a text, or `None`, which is 81.
 //!
-//! A folder number, a client number, a class number and a login number are four types, so that one given in another's place does
-//! not build:
+//! A folder number, a client number, a class number, a login number and a person number are five types, so that one given in
+//! another's place does not build:
 //!
 //! ```compile_fail,E0308
 //! use housechervil::{ClassNo, ClientNo, Conflicts, Register};
@@ -91,13 +92,13 @@
 //!   numbers only. What this crate keeps, a [`Record`]'s log for example, and what it hands on, a folder's name, is a
 //!   borrow that the compiler watches.
 //! - **No conditions.** No function of the library has a precondition. Logins, folders and kinds out of range, lists of unequal
-//!   length, bad pairs, a matrix of a wrong length, an end past the log, a place past the log: each has its answer in the rules, is
-//!   proved to be given it, and then no byte has moved. So no check on this side has to hold, and none is relied on.
+//!   length, bad pairs, a bad person list, a matrix of a wrong length, an end past the log, a place past the log: each has its answer
+//!   in the rules, is proved to be given it, and then no byte has moved. So no check on this side has to hold, and none is relied on.
 //! - **Values.** Lent buffers hold `u8` and `u16`, for which every bit pattern is good. Answers come back as plain numbers; a number
 //!   that the rules do not know would be a panic, never an enum with a value it does not have. Places and ends that come back
 //!   are used only as indices that Rust checks.
-//! - **Layout.** The structs are `repr(C)`, [`ClassNo`] and [`ClientNo`] are `repr(transparent)` around `u16`, and the build stops
-//!   if a struct's size is not that of the C interface on x86-64.
+//! - **Layout.** The structs are `repr(C)`, [`ClassNo`], [`ClientNo`] and [`PersonNo`] are `repr(transparent)` around `u16`, and the
+//!   build stops if a struct's size is not that of the C interface on x86-64.
 //! - **Stack.** The library needs less than 11 KiB of it.
 //! - **Threads.** All types are plain data and borrows, so `Send` and `Sync` are the compiler's own conclusions.
 //!
@@ -115,6 +116,7 @@
 #[allow(non_camel_case_types)]
 mod sys;
 
+mod builder;
 mod conflicts;
 mod ids;
 mod log;
@@ -124,9 +126,11 @@ mod register;
 mod request;
 mod room;
 
+pub use builder::{OpenError, RoomBuilder};
 pub use conflicts::{Conflicts, Pairs};
 pub use ids::{
-    ClassNo, ClientNo, FolderNo, Kind, KindNo, LoginNo, ParseKindError, Rights, Serial, SerialOrder, UnknownKind,
+    ClassNo, ClientNo, FolderNo, Kind, KindNo, LoginNo, ParseKindError, PersonNo, Rights, Serial, SerialOrder,
+    UnknownKind,
 };
 pub use log::{check_log, read_number, read_record, Listed, LogFault, Record, Records, Verdict};
 pub use names::folder_name;

@@ -3,7 +3,7 @@
 use std::error::Error;
 use std::fmt;
 
-use crate::{ruled_out, sys, FolderNo, KindNo, LoginNo, Register, RegisterError, Serial};
+use crate::{ruled_out, sys, FolderNo, KindNo, LoginNo, PersonNo, Register, RegisterError, Serial};
 
 /// What is asked for. Login, folder and kind may be out of range: the answer says so.
 #[derive(Clone, Copy, Debug, PartialEq, Eq, Hash)]
@@ -61,6 +61,8 @@ pub enum Refusal {
         /// The login that asked.
         asked: LoginNo,
     },
+    /// 10: the person list's length is not the number of logins, or an entry, of whichever login, is not below it.
+    BadPersons,
     /// 6: no such folder.
     Folder {
         /// The folder asked for.
@@ -71,24 +73,24 @@ pub enum Refusal {
         /// The kind asked for.
         asked: KindNo,
     },
-    /// 8: a cell of the login's row exceeds 3.
+    /// 8: a cell of the row of the login's person exceeds 3.
     Cell {
         /// The first such folder.
         folder: FolderNo,
     },
     /// 9: the log's end lies past its buffer.
     LogEnd,
-    /// 20: the login may read a folder of a client in conflict with the asked folder's.
+    /// 20: the login's person may read a folder of a client in conflict with the asked folder's.
     Rival {
         /// The first such folder.
         folder: FolderNo,
     },
-    /// 21: kind 3 or 4, and the login may read an unsanitised folder of another client.
+    /// 21: kind 3 or 4, and the login's person may read an unsanitised folder of another client.
     Foreign {
         /// The first such folder.
         folder: FolderNo,
     },
-    /// 22: kind 2, and the login would lose a write right.
+    /// 22: kind 2, and the login's person would lose a write right.
     AtStake {
         /// The first such folder.
         folder: FolderNo,
@@ -104,6 +106,7 @@ impl Refusal {
             Refusal::Register(error) => error.number(),
             Refusal::MatrixLength => 4,
             Refusal::Login { .. } => 5,
+            Refusal::BadPersons => 10,
             Refusal::Folder { .. } => 6,
             Refusal::Kind { .. } => 7,
             Refusal::Cell { .. } => 8,
@@ -126,6 +129,7 @@ impl Refusal {
             | Refusal::AtStake { folder } => Some(folder),
             Refusal::MatrixLength
             | Refusal::Login { .. }
+            | Refusal::BadPersons
             | Refusal::Folder { .. }
             | Refusal::Kind { .. }
             | Refusal::LogEnd
@@ -145,6 +149,7 @@ impl Refusal {
         Some(match number {
             4 => Refusal::MatrixLength,
             5 => Refusal::Login { asked: request.login },
+            10 => Refusal::BadPersons,
             6 => Refusal::Folder { asked: request.folder },
             7 => Refusal::Kind { asked: request.kind },
             8 => Refusal::Cell { folder },
@@ -170,15 +175,18 @@ impl fmt::Display for Refusal {
             Refusal::Register(error) => error.fmt(f),
             Refusal::MatrixLength => f.write_str("the matrix's length is not logins times folders"),
             Refusal::Login { asked } => write!(f, "there is no login {asked}"),
+            Refusal::BadPersons => {
+                f.write_str("the person list's length is not the number of logins, or an entry is not below it")
+            }
             Refusal::Folder { asked } => write!(f, "there is no folder {asked}"),
             Refusal::Kind { asked } => write!(f, "there is no kind of request {asked}"),
-            Refusal::Cell { folder } => write!(f, "the login's cell of folder {folder} exceeds 3"),
+            Refusal::Cell { folder } => write!(f, "the cell of folder {folder} in the person's row exceeds 3"),
             Refusal::LogEnd => f.write_str("the log's end lies past its buffer"),
             Refusal::Rival { folder } => {
-                write!(f, "folder {folder}, which the login may read, belongs to a rival of the folder's client")
+                write!(f, "folder {folder}, which the person may read, belongs to a rival of the folder's client")
             }
             Refusal::Foreign { folder } => {
-                write!(f, "folder {folder}, which the login may read, belongs to another client")
+                write!(f, "folder {folder}, which the person may read, belongs to another client")
             }
             Refusal::AtStake { folder } => write!(f, "the right to write folder {folder} would be lost"),
             Refusal::LogFull => f.write_str("the record is longer than the room left in the log"),
@@ -198,33 +206,46 @@ impl Error for Refusal {
 impl Register<'_> {
     /// A request, on a matrix and a log that are lent.
     ///
-    /// `matrix` has one cell for each login and folder, login by login; blank means all 0. `log` is written from `end` on, and
-    /// `serial` is the serial that the record gets. A grant and the refusals 20, 21 and 22 append a record; the reply has the log's
-    /// new end and the next serial. Any other refusal changes no byte and returns end and serial as they came.
+    /// `persons` has the person of each login. `matrix` has one cell for each person and folder, person by person, and as many
+    /// persons as there are logins; blank means all 0. What the login's person may do decides, through whichever login that came;
+    /// persons need not all be used. `log` is written from `end` on, and `serial` is the serial that the record gets, which names the
+    /// login. A grant and the refusals 20, 21 and 22 append a record; the reply has the log's new end and the next serial. Any other
+    /// refusal changes no byte and returns end and serial as they came.
     ///
     /// ```
-    /// use housechervil::{ClassNo, ClientNo, Conflicts, FolderNo, Granted, Kind, LoginNo, Register, Request, Serial};
+    /// use housechervil::{
+    ///     ClassNo, ClientNo, Conflicts, FolderNo, Granted, Kind, LoginNo, PersonNo, Register, Request, Serial,
+    /// };
     ///
-    /// let register = Register::new(1, &[ClassNo(1), ClassNo(1)], &[ClientNo(1), ClientNo(2)], &Conflicts::ByClass);
-    /// let mut matrix = [0; 2];
+    /// let register = Register::new(2, &[ClassNo(1), ClassNo(1)], &[ClientNo(1), ClientNo(2)], &Conflicts::ByClass);
+    /// let persons = [PersonNo(1), PersonNo(1)]; // both logins are those of person 1
+    /// let mut matrix = [0; 4];
     /// let mut log = [0; 64];
     ///
     /// let first = Request::new(LoginNo(0), FolderNo(0), Kind::Read);
-    /// let reply = register.request(&mut matrix, first, &mut log, 0, Serial(0));
+    /// let reply = register.request(&persons, &mut matrix, first, &mut log, 0, Serial(0));
     /// assert_eq!(reply.answer, Ok(Granted { taken_back: 0 }));
     ///
-    /// let rival = Request::new(LoginNo(0), FolderNo(1), Kind::Read);
-    /// let reply = register.request(&mut matrix, rival, &mut log, reply.end, reply.serial);
+    /// let rival = Request::new(LoginNo(1), FolderNo(1), Kind::Read);
+    /// let reply = register.request(&persons, &mut matrix, rival, &mut log, reply.end, reply.serial);
     /// assert_eq!(reply.answer.unwrap_err().number(), 20);
-    /// assert_eq!(matrix, [1, 0]);
-    /// assert_eq!(&log[..reply.end], [0, 0, 0, 1, 0, 0, 1, 0, 1, 1, 20, 1, 0]);
+    /// assert_eq!(matrix, [0, 0, 1, 0]);
+    /// assert_eq!(&log[..reply.end], [0, 0, 0, 1, 0, 0, 1, 1, 1, 1, 20, 1, 0]);
     /// ```
     #[inline]
-    pub fn request(&self, matrix: &mut [u8], request: Request, log: &mut [u8], end: usize, serial: Serial) -> Reply {
+    pub fn request(
+        &self,
+        persons: &[PersonNo],
+        matrix: &mut [u8],
+        request: Request,
+        log: &mut [u8],
+        end: usize,
+        serial: Serial,
+    ) -> Reply {
         let (classes, clients) = (self.classes, self.clients);
         let (mode, firsts, seconds) = self.conflicts.lend();
-        // SAFETY: each pointer is its slice's, never null, aligned, and valid for the slice's length; class and client numbers are
-        // `repr(transparent)` around `u16`. Matrix and log are lent as `&mut`, so they overlap nothing. The library has no
+        // SAFETY: each pointer is its slice's, never null, aligned, and valid for the slice's length; class, client and person
+        // numbers are `repr(transparent)` around `u16`. Matrix and log are lent as `&mut`, so they overlap nothing. The library has no
         // precondition on any length or number, and keeps no pointer.
         let reply = unsafe {
             sys::hc_request(
@@ -238,6 +259,8 @@ impl Register<'_> {
                 firsts.len(),
                 seconds.as_ptr().cast(),
                 seconds.len(),
+                persons.as_ptr().cast(),
+                persons.len(),
                 matrix.as_mut_ptr(),
                 matrix.len(),
                 request.login.0,

@@ -4,11 +4,12 @@ use std::error::Error;
 use std::fmt;
 
 use crate::{
-    check_log, ClassNo, ClientNo, Conflicts, FolderNo, Granted, Kind, LogFault, LoginNo, Record, Records, Refusal,
-    Register, RegisterError, Request, Rights, Serial,
+    check_log, ClassNo, ClientNo, Conflicts, FolderNo, Granted, Kind, LogFault, LoginNo, PersonNo, Record, Records,
+    Refusal, Register, RegisterError, Request, Rights, Serial,
 };
 
-/// A reading room: a register that was accepted, its matrix, its log, and the log's end and next serial.
+/// A reading room: a register and a person list that were accepted, the matrix, the log, and the log's end and next serial.
+/// [`Room::builder`] opens one.
 ///
 /// # A full log
 ///
@@ -16,10 +17,10 @@ use crate::{
 /// the room goes on with an empty one: rights and serials stay, so the next log continues the one that was taken out.
 ///
 /// ```
-/// use housechervil::{check_log, ClassNo, ClientNo, Conflicts, FolderNo, Granted, Kind, LoginNo, Refusal, Room, Serial};
+/// use housechervil::{check_log, ClassNo, ClientNo, FolderNo, Granted, Kind, LoginNo, Refusal, Room};
 ///
 /// let labels = [(ClassNo(1), ClientNo(1)), (ClassNo(1), ClientNo(2))];
-/// let mut room = Room::new(1, &labels, Conflicts::ByClass, 8, Serial(0))?; // room for one record
+/// let mut room = Room::builder(1, &labels).log_len(8).open()?; // room for one record
 /// assert_eq!(room.ask(LoginNo(0), FolderNo(0), Kind::Read), Ok(Granted { taken_back: 0 }));
 /// assert_eq!(room.ask(LoginNo(0), FolderNo(1), Kind::Read), Err(Refusal::LogFull));
 ///
@@ -27,7 +28,7 @@ use crate::{
 /// assert_eq!(room.ask(LoginNo(0), FolderNo(1), Kind::Read), Err(Refusal::Rival { folder: FolderNo(0) }));
 /// kept.extend(room.take_log());
 /// assert_eq!(check_log(&kept), Ok(2));
-/// # Ok::<(), housechervil::RegisterError>(())
+/// # Ok::<(), housechervil::OpenError>(())
 /// ```
 ///
 /// # Closed and opened again
@@ -36,10 +37,10 @@ use crate::{
 /// makes a room of them.
 ///
 /// ```
-/// use housechervil::{ClassNo, ClientNo, Conflicts, FolderNo, Kind, LoginNo, Refusal, ResumeError, Room, Serial};
+/// use housechervil::{ClassNo, ClientNo, FolderNo, Kind, LoginNo, PersonNo, Refusal, ResumeError, Room};
 ///
 /// let labels = [(ClassNo(1), ClientNo(1)), (ClassNo(1), ClientNo(2))];
-/// let mut room = Room::new(1, &labels, Conflicts::ByClass, 4096, Serial(0))?;
+/// let mut room = Room::builder(1, &labels).open()?;
 /// room.ask(LoginNo(0), FolderNo(0), Kind::Read)?;
 ///
 /// let parts = room.into_parts();
@@ -49,7 +50,7 @@ use crate::{
 /// let mut spoilt = parts;
 /// spoilt.matrix[1] = 4;
 /// let error = Room::resume(spoilt).unwrap_err();
-/// assert_eq!(error, ResumeError::Cell { login: LoginNo(0), folder: FolderNo(1) });
+/// assert_eq!(error, ResumeError::Cell { person: PersonNo(0), folder: FolderNo(1) });
 /// assert_eq!(error.number(), 8);
 /// # Ok::<(), Box<dyn std::error::Error>>(())
 /// ```
@@ -59,6 +60,7 @@ pub struct Room {
     classes: Vec<ClassNo>,
     clients: Vec<ClientNo>,
     conflicts: Conflicts,
+    persons: Vec<PersonNo>,
     matrix: Vec<u8>,
     log: Vec<u8>,
     end: usize,
@@ -67,37 +69,11 @@ pub struct Room {
 }
 
 impl Room {
-    /// A room with a blank matrix and an empty log that can hold `log_len` bytes; its first record gets the serial `first`.
-    ///
-    /// `labels` has each folder's class and client, in folder order; `conflicts` says which clients are in conflict. The room keeps
-    /// both throughout.
-    ///
-    /// # Errors
-    ///
-    /// The register check's refusal.
-    ///
-    /// # Panics
-    ///
-    /// If `log_len` exceeds `isize::MAX`, the most bytes that a `Vec` can have.
-    pub fn new(
-        logins: usize,
-        labels: &[(ClassNo, ClientNo)],
-        conflicts: Conflicts,
-        log_len: usize,
-        first: Serial,
-    ) -> Result<Room, RegisterError> {
-        let (classes, clients): (Vec<_>, Vec<_>) = labels.iter().copied().unzip();
-        Register::new(logins, &classes, &clients, &conflicts).check()?;
-        let matrix = vec![0; logins * labels.len()];
-        let log = vec![0; log_len];
-        Ok(Room { logins, classes, clients, conflicts, matrix, log, end: 0, serial: first, last: None })
-    }
-
     /// The room of these parts, which goes on where the room that they were taken from ended.
     ///
-    /// What a room promises is judged: that the register is accepted, every cell of the matrix is 0 to 3, and the log is in order
-    /// and goes on with the next serial. Whether the matrix follows from the log, or either from requests of this register, cannot
-    /// be judged: the rights that the matrix shows are taken as those that stand.
+    /// What a room promises is judged: that the register and the person list are accepted, every cell of the matrix is 0 to 3, and the
+    /// log is in order and goes on with the next serial. Whether the matrix follows from the log, or either from requests of this
+    /// register, cannot be judged: the rights that the matrix shows are taken as those that stand.
     ///
     /// # Errors
     ///
@@ -106,22 +82,27 @@ impl Room {
     /// # Panics
     ///
     /// If `log_len` exceeds `isize::MAX`, the most bytes that a `Vec` can have.
-    pub fn resume(parts: Parts) -> Result<Room, ResumeError> {
+    pub fn resume(mut parts: Parts) -> Result<Room, ResumeError> {
         parts.register().check()?;
         parts.check_matrix()?;
         let last = parts.check_log()?;
-        let Parts { logins, classes, clients, conflicts, matrix, mut log, log_len, serial } = parts;
+        Ok(Room::of(parts, last))
+    }
+
+    /// The room of parts that were judged, whose last record has this place.
+    pub(crate) fn of(parts: Parts, last: Option<usize>) -> Room {
+        let Parts { logins, classes, clients, conflicts, persons, matrix, mut log, log_len, serial } = parts;
         let end = log.len();
         log.resize(log_len, 0);
-        Ok(Room { logins, classes, clients, conflicts, matrix, log, end, serial, last })
+        Room { logins, classes, clients, conflicts, persons, matrix, log, end, serial, last }
     }
 
     /// Takes the room apart. [`resume`](Room::resume) accepts what comes out, and makes the same room of it.
     pub fn into_parts(self) -> Parts {
-        let Room { logins, classes, clients, conflicts, matrix, mut log, end, serial, .. } = self;
+        let Room { logins, classes, clients, conflicts, persons, matrix, mut log, end, serial, .. } = self;
         let log_len = log.len();
         log.truncate(end);
-        Parts { logins, classes, clients, conflicts, matrix, log, log_len, serial }
+        Parts { logins, classes, clients, conflicts, persons, matrix, log, log_len, serial }
     }
 
     /// A request of `login` for `folder`.
@@ -132,7 +113,7 @@ impl Room {
     pub fn ask(&mut self, login: LoginNo, folder: FolderNo, kind: Kind) -> Result<Granted, Refusal> {
         let register = Register::new(self.logins, &self.classes, &self.clients, &self.conflicts);
         let request = Request::new(login, folder, kind);
-        let reply = register.request(&mut self.matrix, request, &mut self.log, self.end, self.serial);
+        let reply = register.request(&self.persons, &mut self.matrix, request, &mut self.log, self.end, self.serial);
         if reply.end != self.end {
             self.last = Some(self.end);
         }
@@ -158,14 +139,25 @@ impl Room {
         Register::new(self.logins, &self.classes, &self.clients, &self.conflicts)
     }
 
-    /// The matrix: a cell for each login and folder, login by login.
+    /// The person of each login, in login order.
+    pub fn persons(&self) -> &[PersonNo] {
+        &self.persons
+    }
+
+    /// The person of a login; `None` if there is no such login.
+    pub fn person(&self, login: LoginNo) -> Option<PersonNo> {
+        self.persons.get(usize::from(login)).copied()
+    }
+
+    /// The matrix: a cell for each person and folder, person by person, and as many persons as there are logins. No request changes
+    /// the row of one who has no login.
     pub fn matrix(&self) -> &[u8] {
         &self.matrix
     }
 
-    /// The rights of a login on a folder; `None` if there is no such login or no such folder.
+    /// The rights of a login on a folder, which are those of its person; `None` if there is no such login or no such folder.
     pub fn rights(&self, login: LoginNo, folder: FolderNo) -> Option<Rights> {
-        let row = self.matrix.chunks_exact(self.classes.len()).nth(login.into())?;
+        let row = self.matrix.chunks_exact(self.classes.len()).nth(self.person(login)?.into())?;
         Rights::from_cell(*row.get(usize::from(folder))?)
     }
 
@@ -207,7 +199,9 @@ pub struct Parts {
     pub clients: Vec<ClientNo>,
     /// Which clients are in conflict.
     pub conflicts: Conflicts,
-    /// The matrix: a cell for each login and folder, login by login.
+    /// The person of each login, in login order.
+    pub persons: Vec<PersonNo>,
+    /// The matrix: a cell for each person and folder, person by person, and as many persons as there are logins.
     pub matrix: Vec<u8>,
     /// The log's bytes, up to its end.
     pub log: Vec<u8>,
@@ -218,20 +212,34 @@ pub struct Parts {
 }
 
 impl Parts {
-    fn register(&self) -> Register<'_> {
+    pub(crate) fn register(&self) -> Register<'_> {
         Register::new(self.logins, &self.classes, &self.clients, &self.conflicts)
     }
 
-    /// The matrix, of a register that was accepted.
-    fn check_matrix(&self) -> Result<(), ResumeError> {
+    /// Whether the library accepts the person list, beside a register that was accepted and a matrix of the right length. It is asked,
+    /// so that the rule of 10 does not stand here again: a request of login 0, which every good register has, for the first folder
+    /// that is not there gets 10 if the list is bad, since that is judged before the folder, and otherwise 6. Neither changes a byte.
+    pub(crate) fn persons_are_good(&mut self) -> bool {
+        let register = Register::new(self.logins, &self.classes, &self.clients, &self.conflicts);
+        // A register that was accepted has at most 512 folders.
+        let nowhere = Request::new(LoginNo(0), FolderNo(self.classes.len() as u16), Kind::Read);
+        let reply = register.request(&self.persons, &mut self.matrix, nowhere, &mut [], 0, Serial(0));
+        matches!(reply.answer, Err(Refusal::Folder { .. }))
+    }
+
+    /// The matrix, with the person list, of a register that was accepted.
+    fn check_matrix(&mut self) -> Result<(), ResumeError> {
         let folders = self.classes.len();
         if self.matrix.len() != self.logins * folders {
             return Err(ResumeError::MatrixLength);
         }
+        if !self.persons_are_good() {
+            return Err(ResumeError::BadPersons);
+        }
         match self.matrix.iter().position(|&cell| Rights::from_cell(cell).is_none()) {
             // A register that was accepted has at most 128 logins and 512 folders.
             Some(place) => Err(ResumeError::Cell {
-                login: LoginNo((place / folders) as u16),
+                person: PersonNo((place / folders) as u16),
                 folder: FolderNo((place % folders) as u16),
             }),
             None => Ok(()),
@@ -259,10 +267,12 @@ pub enum ResumeError {
     Register(RegisterError),
     /// 4: the matrix's length is not logins times folders.
     MatrixLength,
+    /// 10: the person list's length is not the number of logins, or an entry is not below it.
+    BadPersons,
     /// 8: a cell exceeds 3.
     Cell {
-        /// The first such cell's login.
-        login: LoginNo,
+        /// The first such cell's person.
+        person: PersonNo,
         /// Its folder.
         folder: FolderNo,
     },
@@ -283,6 +293,7 @@ impl ResumeError {
         match self {
             ResumeError::Register(error) => error.number(),
             ResumeError::MatrixLength => 4,
+            ResumeError::BadPersons => 10,
             ResumeError::Cell { .. } => 8,
             ResumeError::LogEnd => 9,
             ResumeError::Log(fault) => fault.number(),
@@ -308,7 +319,10 @@ impl fmt::Display for ResumeError {
         match self {
             ResumeError::Register(error) => error.fmt(f),
             ResumeError::MatrixLength => f.write_str("the matrix's length is not logins times folders"),
-            ResumeError::Cell { login, folder } => write!(f, "the cell of login {login} and folder {folder} exceeds 3"),
+            ResumeError::BadPersons => Refusal::BadPersons.fmt(f),
+            ResumeError::Cell { person, folder } => {
+                write!(f, "the cell of person {person} and folder {folder} exceeds 3")
+            }
             ResumeError::LogEnd => f.write_str("the log has more bytes than it can hold"),
             ResumeError::Log(fault) => fault.fmt(f),
             ResumeError::NextSerial { expected } => {

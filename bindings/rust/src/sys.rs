@@ -101,6 +101,8 @@ extern "C" {
         firsts_len: usize,
         seconds: *const u16,
         seconds_len: usize,
+        persons: *const u16,
+        persons_len: usize,
         matrix: *mut u8,
         matrix_len: usize,
         login: u16,

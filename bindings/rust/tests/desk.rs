@@ -101,6 +101,7 @@ fn expected(input: &[u8]) -> Vec<u8> {
 #[derive(Default)]
 struct Desk {
     logins: Option<u16>,
+    persons: Vec<u16>,
     classes: Vec<u16>,
     clients: Vec<u16>,
     matrix: Option<Vec<u8>>,
@@ -120,7 +121,11 @@ impl Desk {
     /// Takes a well-formed line; false if it is misplaced.
     fn take(&mut self, item: Line) -> bool {
         match (item, self.logins, self.matrix.is_some()) {
-            (Line::Logins(logins), None, _) => self.logins = Some(logins),
+            (Line::Logins(logins), None, _) => {
+                self.logins = Some(logins);
+                // 'The desk program gives every login its own number' (document 02, C-14).
+                self.persons = (0..logins).collect();
+            }
             (Line::Folder(class, client), Some(_), false) => {
                 self.classes.push(class);
                 self.clients.push(client);
@@ -142,7 +147,7 @@ impl Desk {
     }
 
     fn house(&self) -> House<'_> {
-        House::by_class(usize::from(self.logins.unwrap()), &self.classes, &self.clients)
+        House::by_class(usize::from(self.logins.unwrap()), &self.persons, &self.classes, &self.clients)
     }
 
     fn check(&mut self) {

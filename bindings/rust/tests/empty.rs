@@ -2,8 +2,8 @@
 
 use housechervil::{
     check_log, folder_name, pack, pack_into, packed_len, read_number, read_record, unpack, unpack_into, ClassNo,
-    ClientNo, Conflicts, FolderNo, Granted, Kind, KindNo, LogFault, LoginNo, PackError, Pairs, Records, Refusal,
-    Register, RegisterError, Request, Room, Serial, UnpackError,
+    ClientNo, Conflicts, FolderNo, Granted, Kind, KindNo, LogFault, LoginNo, OpenError, PackError, Pairs, PersonNo,
+    Records, Refusal, Register, RegisterError, Request, Room, Serial, UnpackError,
 };
 
 const BY_CLASS: Conflicts = Conflicts::ByClass;
@@ -18,11 +18,14 @@ fn empty_register() {
         assert_eq!(check(1, &[ClassNo(1)], &[]), Err(RegisterError::Sizes));
         assert_eq!(check(0, &[ClassNo(1)], &[ClientNo(1)]), Err(RegisterError::Sizes));
         assert_eq!(check(1, &[ClassNo(1)], &[ClientNo(1)]), Ok(()));
-        assert!(Room::new(1, &[], conflicts.clone(), 10, Serial(0)).is_err());
-        assert!(Room::new(0, &[(ClassNo(1), ClientNo(1))], conflicts, 10, Serial(0)).is_err());
+        let sizes = Err(OpenError::Register(RegisterError::Sizes));
+        let open = |logins, labels: &[_]| Room::builder(logins, labels).conflicts(conflicts.clone()).open().map(drop);
+        assert_eq!(open(1, &[]), sizes);
+        assert_eq!(open(0, &[(ClassNo(1), ClientNo(1))]), sizes);
     }
     assert_eq!(ClassNo::from_slice(&[]), []);
     assert_eq!(ClientNo::from_slice(&[]), []);
+    assert_eq!(PersonNo::from_slice(&[]), []);
 }
 
 /// Without pairs no two clients are in conflict.
@@ -32,7 +35,7 @@ fn empty_pairs() {
     assert_eq!((none.len(), none.is_empty(), none.iter().next()), (0, true, None));
     assert_eq!(none, Pairs::from([]));
     let labels = [1, 2].map(|client| (ClassNo(1), ClientNo(client)));
-    let mut room = Room::new(1, &labels, Conflicts::ByPair(none), 100, Serial(0)).unwrap();
+    let mut room = Room::builder(1, &labels).conflicts(Conflicts::ByPair(none)).open().unwrap();
     for folder in [0, 1].map(FolderNo) {
         assert_eq!(room.ask(LoginNo(0), folder, Kind::Read), Ok(Granted { taken_back: 0 }));
     }
@@ -48,35 +51,75 @@ fn empty_buffers_of_a_request() {
 
     // Nothing at all.
     let nobody = Register::new(0, &[], &[], &BY_CLASS);
-    unmoved(nobody.request(&mut [], request, &mut [], 0, Serial(9)), 0, RegisterError::Sizes.into());
-    unmoved(nobody.request(&mut [], request, &mut [], usize::MAX, Serial(9)), usize::MAX, RegisterError::Sizes.into());
+    unmoved(nobody.request(&[], &mut [], request, &mut [], 0, Serial(9)), 0, RegisterError::Sizes.into());
+    unmoved(
+        nobody.request(&[], &mut [], request, &mut [], usize::MAX, Serial(9)),
+        usize::MAX,
+        RegisterError::Sizes.into(),
+    );
 
     // A good register with an empty matrix, with an empty log, with both.
     let (classes, clients) = ([ClassNo(1)], [ClientNo(1)]);
     let one = Register::new(1, &classes, &clients, &BY_CLASS);
     let mut log = [7; 32];
-    unmoved(one.request(&mut [], request, &mut log, 0, Serial(9)), 0, Refusal::MatrixLength);
-    unmoved(one.request(&mut [], request, &mut [], 0, Serial(9)), 0, Refusal::MatrixLength);
+    unmoved(one.request(&[PersonNo(0)], &mut [], request, &mut log, 0, Serial(9)), 0, Refusal::MatrixLength);
+    unmoved(one.request(&[PersonNo(0)], &mut [], request, &mut [], 0, Serial(9)), 0, Refusal::MatrixLength);
     assert_eq!(log, [7; 32]);
 
     // An empty slice in the middle of bytes that must not change.
     let mut bytes = [0xa5_u8; 64];
     let empty = &mut bytes[32..32];
     let mut matrix = [0];
-    unmoved(one.request(&mut matrix, request, empty, 0, Serial(9)), 0, Refusal::LogFull);
-    unmoved(one.request(&mut matrix, request, empty, 1, Serial(9)), 1, Refusal::LogEnd);
-    unmoved(one.request(&mut matrix, request, empty, usize::MAX, Serial(9)), usize::MAX, Refusal::LogEnd);
+    unmoved(one.request(&[PersonNo(0)], &mut matrix, request, empty, 0, Serial(9)), 0, Refusal::LogFull);
+    unmoved(one.request(&[PersonNo(0)], &mut matrix, request, empty, 1, Serial(9)), 1, Refusal::LogEnd);
+    unmoved(
+        one.request(&[PersonNo(0)], &mut matrix, request, empty, usize::MAX, Serial(9)),
+        usize::MAX,
+        Refusal::LogEnd,
+    );
     assert_eq!(matrix, [0]);
     assert_eq!(bytes, [0xa5; 64]);
 
     // An empty log hides the decision, but not what comes before the wall.
     let strange = Request { login: LoginNo(0), folder: FolderNo(0), kind: KindNo(0) };
-    unmoved(one.request(&mut matrix, strange, &mut [], 0, Serial(9)), 0, Refusal::Kind { asked: KindNo(0) });
+    unmoved(
+        one.request(&[PersonNo(0)], &mut matrix, strange, &mut [], 0, Serial(9)),
+        0,
+        Refusal::Kind { asked: KindNo(0) },
+    );
+}
+
+/// An empty person list is answered 10 in its place, wherever it lies.
+#[test]
+fn empty_person_list() {
+    let (classes, clients) = ([ClassNo(1)], [ClientNo(1)]);
+    let one = Register::new(1, &classes, &clients, &BY_CLASS);
+    let persons = [PersonNo(0); 8];
+    for empty in [&[][..], &persons[..0], &persons[4..4], &persons[8..]] {
+        let ask = |matrix: &mut [u8], login| {
+            let request = Request { login: LoginNo(login), folder: FolderNo(9), kind: KindNo(9) };
+            one.request(empty, matrix, request, &mut [], 1, Serial(9))
+        };
+        let bad = ask(&mut [4], 0);
+        assert_eq!((bad.answer, bad.end, bad.serial), (Err(Refusal::BadPersons), 1, Serial(9)));
+        assert_eq!(ask(&mut [4], 1).answer, Err(Refusal::Login { asked: LoginNo(1) }));
+        assert_eq!(ask(&mut [], 0).answer, Err(Refusal::MatrixLength));
+        assert_eq!(
+            Room::builder(1, &[(ClassNo(1), ClientNo(1))]).persons(empty).open().err(),
+            Some(OpenError::BadPersons)
+        );
+    }
+    let nobody = Register::new(0, &[], &[], &BY_CLASS);
+    let request = Request::new(LoginNo(0), FolderNo(0), Kind::Read);
+    assert_eq!(
+        nobody.request(&persons, &mut [], request, &mut [], 0, Serial(0)).answer,
+        Err(RegisterError::Sizes.into())
+    );
 }
 
 #[test]
 fn empty_room_for_a_log() {
-    let mut room = Room::new(1, &[(ClassNo(1), ClientNo(1))], BY_CLASS, 0, Serial(5)).unwrap();
+    let mut room = Room::builder(1, &[(ClassNo(1), ClientNo(1))]).log_len(0).first_serial(Serial(5)).open().unwrap();
     assert_eq!(room.ask(LoginNo(0), FolderNo(0), Kind::Read), Err(Refusal::LogFull));
     assert_eq!((room.log(), room.log_left(), room.next_serial()), (&[][..], 0, Serial(5)));
     assert!(room.records().next().is_none());

@@ -4,8 +4,8 @@
 use std::fs::read_to_string;
 
 use housechervil::{
-    FolderNo, Granted, Kind, KindNo, LogFault, LoginNo, PackError, Refusal, RegisterError, Rights, UnpackError,
-    Verdict, MAX_FOLDERS, MAX_LOGINS, MAX_PAIRS, MAX_RECORD,
+    FolderNo, Granted, Kind, KindNo, LogFault, LoginNo, OpenError, PackError, Refusal, RegisterError, ResumeError,
+    Rights, UnpackError, Verdict, MAX_FOLDERS, MAX_LOGINS, MAX_PAIRS, MAX_RECORD,
 };
 
 const VERSION: &str = env!("CARGO_PKG_VERSION");
@@ -100,6 +100,9 @@ fn answers_of_register_and_request() {
         ("HC_NO_KIND", Refusal::Kind { asked: KindNo(0) }.number()),
         ("HC_ROW_CELL", Refusal::Cell { folder }.number()),
         ("HC_LOG_END_PAST_BUFFER", Refusal::LogEnd.number()),
+        ("HC_BAD_PERSONS", Refusal::BadPersons.number()),
+        ("HC_BAD_PERSONS", OpenError::BadPersons.number()),
+        ("HC_BAD_PERSONS", ResumeError::BadPersons.number()),
         ("HC_RIVAL", Refusal::Rival { folder }.number()),
         ("HC_FOREIGN", Refusal::Foreign { folder }.number()),
         ("HC_AT_STAKE", Refusal::AtStake { folder }.number()),

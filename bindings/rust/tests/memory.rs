@@ -82,13 +82,14 @@ fn requests() {
     let mut random = Random::new(60);
     let mut labels = [Fenced::new(2048), Fenced::new(2048)];
     let mut pairs = [Fenced::new(140_000), Fenced::new(140_000)];
+    let mut people = Fenced::new(140_000);
     let mut buffers = [Fenced::new(65_536), Fenced::new(65_536)];
     for round in 0..9_000 {
         let (logins, folders) = match round % 10 {
             0 => (random.pick(&[1, 128]), random.pick(&[511, 512, 512, 257])),
             _ => (random.range(1, 5), random.range(1, 70)),
         };
-        let house = Owned::good(&mut random, logins, folders, 5);
+        let house = Owned::good(&mut random, logins, folders, 5).with_persons(&mut random);
         let mut house = match round % 3 {
             0 => house,
             1 => house.with_idle_pairs(&mut random),
@@ -96,6 +97,9 @@ fn requests() {
         };
         if random.once_in(5) {
             house.damage(&mut random);
+        }
+        if random.once_in(3) {
+            house.damage_persons(&mut random);
         }
         let matrix_content = cells(&mut random, logins * folders);
         let log_content = vec![0x5a; random.pick(&[0, 1, 5, 6, 7, 8, 40, 900, 2_000])];
@@ -110,11 +114,12 @@ fn requests() {
             let (classes, clients) = (&*one.hold(&house.classes, side), &*two.hold(&house.clients, side));
             let [one, two] = &mut pairs;
             let (firsts, seconds) = (&*one.hold(&house.firsts, side), &*two.hold(&house.seconds, side));
+            let persons = &*people.hold(&house.persons, side);
             let [one, two] = &mut buffers;
             let (matrix, log) = (one.hold(&matrix_content, side), two.hold(&log_content, side));
             let (mut expected_matrix, mut expected_log) = (matrix_content.clone(), log_content.clone());
             let expected = reference::request(&house.lend(), &mut expected_matrix, ask, &mut expected_log, end, 16_383);
-            let lent = House { logins: house.logins, classes, clients, mode: house.mode, firsts, seconds };
+            let lent = House { logins: house.logins, persons, classes, clients, mode: house.mode, firsts, seconds };
             let reply = raw_request(&lent, matrix, ask, log, end, 16_383);
             assert_eq!(reply.number, expected.answer.map_or_else(|refusal| refusal.numbers()[0], |_| 0));
             assert_eq!((reply.end, reply.serial), (expected.end, expected.serial));

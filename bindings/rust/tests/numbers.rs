@@ -8,7 +8,9 @@ use std::arch::global_asm;
 use reference::Age;
 use support::{same_number, sys, Random, Tally};
 
-use housechervil::{ClassNo, ClientNo, Conflicts, FolderNo, Kind, LoginNo, Register, Request, Serial, SerialOrder};
+use housechervil::{
+    ClassNo, ClientNo, Conflicts, FolderNo, Kind, LoginNo, PersonNo, Register, Request, Serial, SerialOrder,
+};
 
 // Another implementation of the same coding: the assembler's. It writes the numbers 0 to 65,535 one after the other as LEB128.
 global_asm!(
@@ -60,7 +62,7 @@ fn written(number: u16) -> Vec<u8> {
     let register = Register::new(1, &[ClassNo(1)], &[ClientNo(1)], &Conflicts::ByClass);
     let mut log = [0; 8];
     let request = Request::new(LoginNo(0), FolderNo(0), Kind::CarefulRead);
-    let reply = register.request(&mut [0], request, &mut log, 0, Serial(number));
+    let reply = register.request(&[PersonNo(0)], &mut [0], request, &mut log, 0, Serial(number));
     assert_eq!(log[reply.end - 5..reply.end], [0, 0, 2, 0, 0]);
     log[..reply.end - 5].to_vec()
 }

@@ -308,7 +308,7 @@ fn eleven_in_its_place() {
             let mut ask = Ask { login: 2, folder: 3, kind: 0 };
             let mut end = 3;
             let (mut checks, mut requests) = (Vec::new(), Vec::new());
-            for step in 0..10 {
+            for step in 0..11 {
                 match step {
                     1 => house.logins = 2,
                     2 => house.classes[2] = 3,
@@ -316,9 +316,10 @@ fn eleven_in_its_place() {
                     4 => house = house.paired(mode, &[]),
                     5 => matrix = vec![4, 9, 1, 1, 9, 9],
                     6 => ask.login = 0,
-                    7 => ask.folder = 1,
-                    8 => ask.kind = 3,
-                    9 => (matrix, end) = (vec![0; 6], 2),
+                    7 => house.persons = vec![0, 1],
+                    8 => ask.folder = 1,
+                    9 => ask.kind = 3,
+                    10 => (matrix, end) = (vec![0; 6], 2),
                     _ => {}
                 }
                 let mut m = Guarded::new(&mut random, &matrix);
@@ -328,8 +329,8 @@ fn eleven_in_its_place() {
                 checks.push(checked(&house));
             }
             let eleven = |otherwise| if mode == 0 { otherwise } else { 11 };
-            assert_eq!(requests, [1, 2, 3, eleven(4), 4, 5, 6, 7, 8, 30]);
-            assert_eq!(checks, [1, 2, 3, eleven(0), 0, 0, 0, 0, 0, 0]);
+            assert_eq!(requests, [1, 2, 3, eleven(4), 4, 5, 10, 6, 7, 8, 30]);
+            assert_eq!(checks, [1, 2, 3, eleven(0), 0, 0, 0, 0, 0, 0, 0]);
         }
     }
 }

@@ -1,5 +1,5 @@
 //! The request, held against the reference: answers, matrix, log, end and serial, buffers compared whole with guard bytes on both sides;
-//! by classes and by pairs. What is particular to pairs is in `pairs.rs`.
+//! by classes and by pairs, with persons of all sorts. What is particular to pairs is in `pairs.rs`, to persons in `persons.rs`.
 
 mod reference;
 mod support;
@@ -7,15 +7,15 @@ mod support;
 use reference::{Ask, Reply};
 use support::{cells, same_request, serial, Guarded, Owned, Random, Tally};
 
-const ALL: [u16; 15] = [0, 1, 2, 3, 4, 5, 6, 7, 8, 9, 11, 20, 21, 22, 30];
+const ALL: [u16; 16] = [0, 1, 2, 3, 4, 5, 6, 7, 8, 9, 10, 11, 20, 21, 22, 30];
 
 fn number(reply: &Reply) -> u16 {
     reply.answer.map_or_else(|refusal| refusal.numbers()[0], |_| 0)
 }
 
-/// A good register in class mode, in class mode with pairs that nothing may look at, or by pairs.
+/// A good register in class mode, in class mode with pairs that nothing may look at, or by pairs; with a good person list.
 fn good(random: &mut Random, logins: usize, folders: usize, clients: usize) -> Owned {
-    let house = Owned::good(random, logins, folders, clients);
+    let house = Owned::good(random, logins, folders, clients).with_persons(random);
     match random.below(4) {
         0 => house,
         1 => house.with_idle_pairs(random),
@@ -94,6 +94,9 @@ fn random_houses(seed: u64, cases: usize, often: usize, size: impl Fn(&mut Rando
         let mut house = good(&mut random, logins, folders, clients);
         if random.once_in(8) {
             house.damage(&mut random);
+        }
+        if random.once_in(8) {
+            house.damage_persons(&mut random);
         }
         tally.add(number(&one_case(&mut random, &house)));
     }
@@ -252,19 +255,21 @@ fn first_fault_speaks() {
     let mut end = 3;
     let mut log_len = 2;
     let mut answers = Vec::new();
-    for step in 0..12 {
+    for step in 0..14 {
         match step {
             1 => house.logins = 2,
             2 => house.classes[2] = 3,
             3 => house.clients[1] = 5,
-            4 => matrix = vec![4, 9, 1, 1, 9, 9],
+            4 => matrix = vec![9, 9, 9, 4, 9, 1],
             5 => ask.login = 0,
-            6 => ask.folder = 1,
-            7 => ask.kind = 3,
-            8 => matrix = vec![1, 9, 1, 1, 9, 9],
-            9 => matrix = vec![1, 2, 1, 1, 9, 9],
-            10 => end = 2,
-            11 => {
+            6 => house.persons = vec![1, 2],
+            7 => house.persons = vec![1, 0],
+            8 => ask.folder = 1,
+            9 => ask.kind = 3,
+            10 => matrix = vec![9, 9, 9, 1, 9, 1],
+            11 => matrix = vec![9, 9, 9, 1, 2, 1],
+            12 => end = 2,
+            13 => {
                 log_len = 30;
                 house.classes[1] = 3;
             }
@@ -275,7 +280,7 @@ fn first_fault_speaks() {
         let reply = same_request(&house.lend(), &mut m, ask, &mut l, end, 7);
         answers.push(number(&reply));
     }
-    assert_eq!(answers, [1, 2, 3, 4, 5, 6, 7, 8, 8, 9, 30, 20]);
+    assert_eq!(answers, [1, 2, 3, 4, 5, 10, 10, 6, 7, 8, 8, 9, 30, 20]);
 }
 
 /// Long runs of requests, each on what the one before it left, with serials that go round past 65,535; the log is read back field
@@ -307,13 +312,12 @@ fn long_runs() {
                 assert!(matrix == before && reply.serial == serial);
                 continue;
             }
-            // What a grant took back, seen in the matrix.
-            let lost: Vec<u16> = (0..folders)
-                .filter(|&folder| {
-                    let place = usize::from(ask.login) * folders + folder;
-                    before.inner()[place] & 2 != 0 && matrix.inner()[place] & 2 == 0
-                })
-                .map(|folder| folder as u16)
+            // What a grant took back, seen in the row of the login's person.
+            let [had, has] = [&before, &matrix].map(|matrix| house.row(matrix.inner(), ask.login));
+            let lost: Vec<u16> = (0..)
+                .zip(had.iter().zip(has))
+                .filter(|(_, (had, has))| *had & 2 > *has & 2)
+                .map(|lost| lost.0)
                 .collect();
             let list = match reply.answer {
                 Ok(count) => {

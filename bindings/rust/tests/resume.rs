@@ -7,20 +7,26 @@ mod support;
 use std::error::Error;
 
 use housechervil::{
-    check_log, ClassNo, ClientNo, Conflicts, FolderNo, Granted, Kind, LogFault, LoginNo, Pairs, Parts, Refusal,
-    RegisterError, ResumeError, Rights, Room, Serial, MAX_RECORD,
+    check_log, ClassNo, ClientNo, Conflicts, FolderNo, Granted, Kind, LogFault, LoginNo, Pairs, Parts, PersonNo,
+    Refusal, RegisterError, ResumeError, Rights, Room, Serial, MAX_RECORD,
 };
 use support::{conflicts, Owned, Random, Tally};
 
 fn new_room(house: &Owned, log_len: usize, first: Serial) -> Room {
     let labels: Vec<_> =
         house.classes.iter().zip(&house.clients).map(|(&class, &client)| (ClassNo(class), ClientNo(client))).collect();
-    Room::new(house.logins, &labels, conflicts(&house.lend()).unwrap(), log_len, first).unwrap()
+    Room::builder(house.logins, &labels)
+        .conflicts(conflicts(&house.lend()).unwrap())
+        .persons(PersonNo::from_slice(&house.persons))
+        .log_len(log_len)
+        .first_serial(first)
+        .open()
+        .unwrap()
 }
 
-/// A good register, by class or by pair.
+/// A good register, by class or by pair, with a good person list.
 fn good(random: &mut Random, logins: usize, folders: usize, clients: usize) -> Owned {
-    let house = Owned::good(random, logins, folders, clients);
+    let house = Owned::good(random, logins, folders, clients).with_persons(random);
     match random.below(2) {
         0 => house,
         _ => house.with_pairs(random),
@@ -43,7 +49,7 @@ fn take_log(room: &mut Room) -> Vec<u8> {
     assert_eq!((room.log(), room.log_left()), (&[][..], all));
     assert!(room.records().next().is_none() && room.last_record().is_none());
     assert_eq!((room.matrix(), room.next_serial()), (before.matrix(), before.next_serial()));
-    assert_eq!(room.register(), before.register());
+    assert_eq!((room.register(), room.persons()), (before.register(), before.persons()));
     taken
 }
 
@@ -123,9 +129,12 @@ fn judged(parts: &Parts) -> Result<(), ResumeError> {
     if parts.matrix.len() != parts.logins * folders {
         return Err(ResumeError::MatrixLength);
     }
-    for (login, row) in parts.matrix.chunks(folders).enumerate() {
+    if reference::bad_persons(&house.lend()) {
+        return Err(ResumeError::BadPersons);
+    }
+    for (person, row) in parts.matrix.chunks(folders).enumerate() {
         if let Some(at) = row.iter().position(|&cell| cell > 3) {
-            return Err(ResumeError::Cell { login: LoginNo(login as u16), folder: folder(at) });
+            return Err(ResumeError::Cell { person: PersonNo(person as u16), folder: folder(at) });
         }
     }
     if parts.log.len() > parts.log_len {
@@ -150,10 +159,11 @@ fn judged(parts: &Parts) -> Result<(), ResumeError> {
     }
 }
 
-/// The register of parts.
+/// The house of parts.
 fn owned(parts: &Parts) -> Owned {
     let house = Owned {
         logins: parts.logins,
+        persons: parts.persons.iter().map(|person| person.0).collect(),
         classes: parts.classes.iter().map(|class| class.0).collect(),
         clients: parts.clients.iter().map(|client| client.0).collect(),
         ..Owned::new(0, &[])
@@ -178,10 +188,18 @@ fn damage_register(random: &mut Random, parts: &mut Parts) {
     parts.clients = house.clients.into_iter().map(ClientNo).collect();
 }
 
+/// Damages the person list of parts as it is damaged elsewhere.
+fn damage_persons(random: &mut Random, parts: &mut Parts) {
+    let mut house = owned(parts);
+    house.damage_persons(random);
+    parts.persons = PersonNo::from_slice(&house.persons).to_vec();
+}
+
 /// Damages parts in one way; some of them happen to do no harm.
 fn damage(random: &mut Random, parts: &mut Parts) {
-    match random.below(9) {
+    match random.below(10) {
         0 => damage_register(random, parts),
+        9 => damage_persons(random, parts),
         1 => drop(parts.matrix.pop()),
         2 => parts.matrix.push(0),
         3 => {
@@ -248,7 +266,7 @@ fn damaged_parts() {
             }
         }
     }
-    tally.met(&[0, 1, 2, 3, 4, 8, 9, 11, 51, 52, 53, 54, 55], 50);
+    tally.met(&[0, 1, 2, 3, 4, 8, 9, 10, 11, 51, 52, 53, 54, 55], 50);
 }
 
 /// Parts by hand, as they might come from a file: a read right, its record, and a log with room for one more.
@@ -258,6 +276,7 @@ fn parts() -> Parts {
         classes: vec![ClassNo(1), ClassNo(1)],
         clients: vec![ClientNo(1), ClientNo(2)],
         conflicts: Conflicts::ByClass,
+        persons: vec![PersonNo(0), PersonNo(1)],
         matrix: vec![0, 0, 1, 0],
         log: vec![127, 1, 0, 1, 0, 0],
         log_len: 14,
@@ -296,6 +315,22 @@ fn parts_by_pairs() {
     assert_eq!(asked(by([(ClientNo(2), ClientNo(1))].into())), rival);
     let classes = vec![ClassNo(1), ClassNo(2)];
     assert_eq!(asked(Parts { classes, ..by([(ClientNo(2), ClientNo(1))].into()) }), rival);
+}
+
+/// The same parts with other persons: the list is kept, and the row of the login's person alone decides.
+#[test]
+fn parts_with_persons() {
+    let asked = |persons: [u16; 2], login: u16| {
+        let parts = Parts { persons: persons.map(PersonNo).into(), ..parts() };
+        let mut room = Room::resume(parts.clone()).unwrap();
+        assert_eq!(room.persons(), parts.persons);
+        let answer = room.ask(LoginNo(login), FolderNo(1), Kind::Read);
+        assert_eq!(room.into_parts().persons, parts.persons);
+        answer.map_err(Refusal::number)
+    };
+    let granted = Ok(Granted { taken_back: 0 });
+    assert_eq!([[0, 1], [1, 1], [1, 0], [0, 0]].map(|persons| asked(persons, 0)), [granted, Err(20), Err(20), granted]);
+    assert_eq!([[0, 1], [1, 1], [1, 0], [0, 0]].map(|persons| asked(persons, 1)), [Err(20), Err(20), granted, granted]);
 }
 
 /// An empty log goes on with any serial, and a log may be as long as it can be.
@@ -339,12 +374,27 @@ fn each_fault() {
     case(Parts { conflicts: pairs((2, 2)), log_len: 0, ..parts() }, bad.into(), 11, &bad.to_string());
     case(Parts { conflicts: pairs((2, 2)), logins: 0, ..parts() }, sizes.into(), 1, &sizes.to_string());
     let words = "the matrix's length is not logins times folders";
-    case(Parts { matrix: vec![9; 3], ..parts() }, ResumeError::MatrixLength, 4, words);
+    case(Parts { matrix: vec![9; 3], persons: vec![], ..parts() }, ResumeError::MatrixLength, 4, words);
+    let words = "the person list's length is not the number of logins, or an entry is not below it";
+    for persons in [&[][..], &[0], &[0, 1, 0], &[0, 2], &[2, 0], &[0, 65_535]] {
+        let persons = PersonNo::from_slice(persons).to_vec();
+        case(Parts { persons: persons.clone(), ..parts() }, ResumeError::BadPersons, 10, words);
+        let more = Parts { persons: persons.clone(), matrix: vec![9; 4], log_len: 0, ..parts() };
+        case(more, ResumeError::BadPersons, 10, words);
+        case(Parts { persons, logins: 0, ..parts() }, sizes.into(), 1, &sizes.to_string());
+    }
     case(
         Parts { matrix: vec![0, 0, 3, 4], log_len: 0, ..parts() },
-        ResumeError::Cell { login: LoginNo(1), folder: FolderNo(1) },
+        ResumeError::Cell { person: PersonNo(1), folder: FolderNo(1) },
         8,
-        "the cell of login 1 and folder 1 exceeds 3",
+        "the cell of person 1 and folder 1 exceeds 3",
+    );
+    // Every row is judged, also that of a person who has no login.
+    case(
+        Parts { matrix: vec![0, 0, 3, 4], persons: vec![PersonNo(0); 2], ..parts() },
+        ResumeError::Cell { person: PersonNo(1), folder: FolderNo(1) },
+        8,
+        "the cell of person 1 and folder 1 exceeds 3",
     );
     let words = "the log has more bytes than it can hold";
     case(Parts { log_len: 5, log: vec![255; 6], ..parts() }, ResumeError::LogEnd, 9, words);
@@ -379,6 +429,6 @@ fn the_matrix_is_not_held_against_the_log() {
 fn logs_that_cannot_be() {
     let beyond = isize::MAX as usize + 1;
     let labels = [(ClassNo(1), ClientNo(1))];
-    assert!(std::panic::catch_unwind(|| Room::new(1, &labels, Conflicts::ByClass, beyond, Serial(0))).is_err());
+    assert!(std::panic::catch_unwind(|| Room::builder(1, &labels).log_len(beyond).open()).is_err());
     assert!(std::panic::catch_unwind(|| Room::resume(Parts { log_len: beyond, ..parts() })).is_err());
 }

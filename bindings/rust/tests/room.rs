@@ -3,8 +3,9 @@
 use std::error::Error;
 
 use housechervil::{
-    ClassNo, ClientNo, Conflicts, FolderNo, Granted, Kind, KindNo, LogFault, LoginNo, PackError, Pairs, ParseKindError,
-    Refusal, RegisterError, Rights, Room, Serial, UnknownKind, UnpackError, Verdict, MAX_PAIRS,
+    ClassNo, ClientNo, Conflicts, FolderNo, Granted, Kind, KindNo, LogFault, LoginNo, OpenError, PackError, Pairs,
+    ParseKindError, PersonNo, Refusal, RegisterError, ResumeError, Rights, Room, Serial, UnknownKind, UnpackError,
+    Verdict, MAX_PAIRS,
 };
 
 const FOLDER: FolderNo = FolderNo(7);
@@ -24,6 +25,7 @@ fn numbers_and_words() {
     let refusals = [
         Refusal::MatrixLength,
         Refusal::Login { asked: LoginNo(7) },
+        Refusal::BadPersons,
         Refusal::Folder { asked: FOLDER },
         Refusal::Kind { asked: KindNo(7) },
         Refusal::Cell { folder: FOLDER },
@@ -33,7 +35,7 @@ fn numbers_and_words() {
         Refusal::AtStake { folder: FOLDER },
         Refusal::LogFull,
     ];
-    assert_eq!(refusals.map(Refusal::number), [4, 5, 6, 7, 8, 9, 20, 21, 22, 30]);
+    assert_eq!(refusals.map(Refusal::number), [4, 5, 10, 6, 7, 8, 9, 20, 21, 22, 30]);
     for refusal in refusals {
         assert_eq!(refusal.folder().is_some(), [8, 20, 21, 22].contains(&refusal.number()));
         assert_eq!(refusal.is_logged(), [20, 21, 22].contains(&refusal.number()));
@@ -44,7 +46,15 @@ fn numbers_and_words() {
         assert_eq!((refusal.number(), refusal.folder()), (error.number(), error.folder()));
         assert!(refusal.source().is_some() && !refusal.is_logged());
         assert_eq!(refusal.to_string(), error.to_string());
+        let open = OpenError::from(error);
+        assert_eq!((open.number(), open.to_string()), (error.number(), error.to_string()));
+        assert!(open.source().is_some());
     }
+    assert_eq!((OpenError::BadPersons.number(), ResumeError::BadPersons.number()), (10, 10));
+    assert!(OpenError::BadPersons.source().is_none());
+    let words = "the person list's length is not the number of logins, or an entry is not below it";
+    assert_eq!(Refusal::BadPersons.to_string(), words);
+    assert_eq!([OpenError::BadPersons.to_string(), ResumeError::BadPersons.to_string()], [words; 2]);
 
     let faults = [
         LogFault::PastEnd { place: 3 },
@@ -135,7 +145,7 @@ fn kinds_parsed_and_printed() {
 #[test]
 fn a_room() {
     let labels = [(1, 1), (1, 2), (2, 3)].map(|(class, client)| (ClassNo(class), ClientNo(client)));
-    let mut room = Room::new(2, &labels, Conflicts::ByClass, 21, Serial(65_535)).unwrap();
+    let mut room = Room::builder(2, &labels).log_len(21).first_serial(Serial(65_535)).open().unwrap();
     let (ann, ben) = (LoginNo(0), LoginNo(1));
     assert!(room.last_record().is_none());
 
@@ -183,13 +193,92 @@ fn a_room() {
 #[test]
 fn bad_registers() {
     let label = |class, client| (ClassNo(class), ClientNo(client));
-    let error = |logins, labels: &[_]| Room::new(logins, labels, Conflicts::ByClass, 100, Serial(0)).unwrap_err();
+    let error = |logins, labels: &[_]| match Room::builder(logins, labels).open() {
+        Err(OpenError::Register(error)) => error,
+        other => panic!("{other:?}"),
+    };
     assert_eq!(error(129, &[label(1, 1)]), RegisterError::Sizes);
     assert_eq!(error(usize::MAX, &[label(1, 1)]), RegisterError::Sizes);
     assert_eq!(error(1, &vec![label(1, 1); 513]), RegisterError::Sizes);
     assert_eq!(error(1, &[label(1, 1), label(0, 1)]), RegisterError::LoneZero { folder: FolderNo(1) });
     let two = RegisterError::TwoClasses { folder: FolderNo(1), earlier: FolderNo(0) };
     assert_eq!(error(1, &[label(1, 4), label(2, 4)]), two);
+}
+
+/// What is left out at the opening is as the documentation has it, and what is said counts, in whatever order.
+#[test]
+fn openings() {
+    let labels = [(ClassNo(1), ClientNo(1)), (ClassNo(1), ClientNo(2))];
+    let plain = Room::builder(3, &labels);
+    let room = plain.clone().open().unwrap();
+    assert_eq!(room.register().conflicts, &Conflicts::ByClass);
+    assert_eq!(room.persons(), [0, 1, 2].map(PersonNo));
+    assert_eq!((room.log_left(), room.next_serial(), room.log()), (65_536, Serial(0), &[][..]));
+    assert_eq!(room.matrix(), [0; 6]);
+
+    let said = plain
+        .clone()
+        .conflicts(Conflicts::ByClass)
+        .persons([0, 1, 2].map(PersonNo))
+        .log_len(65_536)
+        .first_serial(Serial(0));
+    assert_eq!(said, plain);
+    let none = Conflicts::ByPair(Pairs::default());
+    let persons = vec![PersonNo(2); 3];
+    let one = plain.clone().first_serial(Serial(9)).log_len(7).persons(persons.clone()).conflicts(none.clone());
+    let other = plain.conflicts(none.clone()).persons(&persons[..]).log_len(7).first_serial(Serial(9));
+    assert_eq!(one, other);
+    let parts = one.open().unwrap().into_parts();
+    assert_eq!((parts.persons, parts.log_len, parts.serial, parts.conflicts), (persons, 7, Serial(9), none));
+}
+
+/// Bad person lists never make a room; what is wrong with the register speaks first.
+#[test]
+fn bad_persons() {
+    let labels = [(ClassNo(1), ClientNo(1)), (ClassNo(1), ClientNo(2))];
+    let house = |logins| Room::builder(logins, &labels);
+    let lists: [&[u16]; 8] = [&[], &[0], &[0, 1], &[0, 1, 2, 0], &[3, 0, 0], &[0, 0, 3], &[0, 65_535, 0], &[256, 0, 0]];
+    for list in lists {
+        let persons = PersonNo::from_slice(list);
+        assert_eq!(house(3).persons(persons).open().unwrap_err(), OpenError::BadPersons, "{list:?}");
+        let sizes = OpenError::from(RegisterError::Sizes);
+        assert_eq!(house(129).persons(persons).open().unwrap_err(), sizes);
+        let pairs = Conflicts::ByPair([pair(1, 1)].into());
+        let bad = OpenError::from(RegisterError::BadPairs);
+        assert_eq!(house(3).persons(persons).conflicts(pairs).open().unwrap_err(), bad);
+    }
+    for list in [[0, 0, 0], [2, 2, 2], [2, 1, 0]] {
+        assert_eq!(house(3).persons(PersonNo::from_slice(&list)).open().unwrap().persons(), list.map(PersonNo));
+    }
+    assert_eq!(house(128).persons([PersonNo(127); 128]).open().unwrap().person(LoginNo(127)), Some(PersonNo(127)));
+    assert!(house(128).persons([PersonNo(128); 128]).open().is_err());
+}
+
+/// A login's rights are its person's, whichever login they came through; records have the login.
+#[test]
+fn rights_of_a_person() {
+    let labels = [(1, 1), (1, 2), (2, 3)].map(|(class, client)| (ClassNo(class), ClientNo(client)));
+    let mut room = Room::builder(4, &labels).persons([3, 0, 3, 0].map(PersonNo)).open().unwrap();
+    let login = |number| LoginNo(number);
+    let read = Some(Rights { read: true, write: false });
+    assert_eq!(room.ask(login(2), FolderNo(1), Kind::Read), Ok(Granted { taken_back: 0 }));
+    assert_eq!(room.matrix(), [0, 0, 0, 0, 0, 0, 0, 0, 0, 0, 1, 0]);
+    assert_eq!(
+        [0, 1, 2, 3, 4].map(|number| room.person(login(number)).map(u16::from)),
+        [Some(3), Some(0), Some(3), Some(0), None]
+    );
+    for number in [0, 2] {
+        assert_eq!(room.rights(login(number), FolderNo(1)), read);
+    }
+    for number in [1, 3] {
+        assert_eq!(room.rights(login(number), FolderNo(1)), Some(Rights::default()));
+    }
+    assert_eq!(room.rights(login(4), FolderNo(1)), None);
+    assert_eq!(room.rights(login(2), FolderNo(3)), None);
+    assert_eq!(room.ask(login(0), FolderNo(0), Kind::Read), Err(Refusal::Rival { folder: FolderNo(1) }));
+    assert_eq!(room.last_record().unwrap().login(), login(0));
+    assert_eq!(room.ask(login(1), FolderNo(0), Kind::Read), Ok(Granted { taken_back: 0 }));
+    assert_eq!(room.records().map(|record| record.unwrap().login().0).collect::<Vec<_>>(), [2, 0, 1]);
 }
 
 fn pair(first: u16, second: u16) -> (ClientNo, ClientNo) {
@@ -213,12 +302,12 @@ fn pairs() {
 #[test]
 fn bad_pairs() {
     let labels = [(ClassNo(1), ClientNo(1)), (ClassNo(2), ClientNo(2))];
-    let room = |pairs: Pairs| Room::new(1, &labels, Conflicts::ByPair(pairs), 100, Serial(0));
+    let room = |pairs: Pairs| Room::builder(1, &labels).conflicts(Conflicts::ByPair(pairs)).open();
     for bad in [pair(0, 1), pair(1, 0), pair(0, 0), pair(2, 2)] {
         let error = room([pair(1, 2), bad].into()).unwrap_err();
-        assert_eq!((error, error.number()), (RegisterError::BadPairs, 11));
+        assert_eq!((error, error.number()), (RegisterError::BadPairs.into(), 11));
     }
-    assert_eq!(room(vec![pair(1, 2); MAX_PAIRS + 1].as_slice().into()).unwrap_err(), RegisterError::BadPairs);
+    assert_eq!(room(vec![pair(1, 2); MAX_PAIRS + 1].as_slice().into()).unwrap_err(), RegisterError::BadPairs.into());
 
     let mut room = room(vec![pair(1, 2); MAX_PAIRS].as_slice().into()).unwrap();
     assert_eq!(room.register().conflicts, &Conflicts::ByPair(vec![pair(1, 2); MAX_PAIRS].as_slice().into()));
@@ -232,6 +321,7 @@ fn bad_pairs() {
 fn threads() {
     fn sendable<T: Send + Sync>() {}
     sendable::<Room>();
+    sendable::<housechervil::RoomBuilder>();
     sendable::<housechervil::Register<'static>>();
     sendable::<housechervil::Records<'static>>();
     sendable::<housechervil::Record<'static>>();
@@ -242,7 +332,7 @@ fn threads() {
         let rooms: Vec<_> = (0..4)
             .map(|_| {
                 scope.spawn(|| {
-                    let mut room = Room::new(1, &labels, Conflicts::ByClass, 65_536, Serial(0)).unwrap();
+                    let mut room = Room::builder(1, &labels).open().unwrap();
                     for _ in 0..5_000 {
                         let _ = room.ask(LoginNo(0), FolderNo(0), Kind::Read);
                         let _ = room.ask(LoginNo(0), FolderNo(1), Kind::Read);

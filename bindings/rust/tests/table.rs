@@ -3,7 +3,7 @@
 mod reference;
 mod support;
 
-use housechervil::{ClassNo, ClientNo, Conflicts, FolderNo, Kind, LoginNo, Room, Serial, Verdict};
+use housechervil::{ClassNo, ClientNo, FolderNo, Kind, LoginNo, Room, Verdict};
 use reference::Ask;
 use support::{same_check, same_request, Guarded, Owned, Random};
 
@@ -71,7 +71,7 @@ fn table_on_lent_buffers() {
 #[test]
 fn table_in_a_room() {
     let labels = LABELS.map(|(class, client)| (ClassNo(class), ClientNo(client)));
-    let mut room = Room::new(2, &labels, Conflicts::ByClass, 65_536, Serial(0)).unwrap();
+    let mut room = Room::builder(2, &labels).open().unwrap();
     for (letter, login, folder, prints) in TABLE {
         let serial = room.next_serial();
         let answer = room.ask(LoginNo(login), FolderNo(folder), kind(letter));

@@ -1,5 +1,7 @@
 //! What is asked in the benchmarks.
 
+use std::ops::Range;
+
 use crate::reference::{self, Ask, House};
 
 /// A generator of numbers (SplitMix64).
@@ -18,6 +20,7 @@ impl Random {
 #[derive(Clone)]
 pub struct Input {
     pub logins: usize,
+    pub persons: Vec<u16>,
     pub classes: Vec<u16>,
     pub clients: Vec<u16>,
     pub mode: u8,
@@ -28,17 +31,19 @@ pub struct Input {
 }
 
 impl Input {
-    /// A house by classes whose folder f belongs to client `client(f)`; eight clients share a class.
+    /// A house by classes whose folder f belongs to client `client(f)`; eight clients share a class, and each login is its own person.
     pub fn new(logins: usize, folders: usize, client: impl Fn(usize) -> usize) -> Input {
         let clients: Vec<u16> = (0..folders).map(|folder| client(folder) as u16).collect();
         let classes = clients.iter().map(|&client| if client == 0 { 0 } else { 1 + client / 8 }).collect();
         let (firsts, seconds, asks) = (Vec::new(), Vec::new(), Vec::new());
-        Input { logins, classes, clients, mode: 0, firsts, seconds, matrix: vec![0; logins * folders], asks }
+        let (persons, matrix) = ((0..logins as u16).collect(), vec![0; logins * folders]);
+        Input { logins, persons, classes, clients, mode: 0, firsts, seconds, matrix, asks }
     }
 
     pub fn house(&self) -> House<'_> {
         House {
             logins: self.logins,
+            persons: &self.persons,
             classes: &self.classes,
             clients: &self.clients,
             mode: self.mode,
@@ -49,6 +54,12 @@ impl Input {
 
     pub fn folders(&self) -> usize {
         self.clients.len()
+    }
+
+    /// The cells that a login's requests are decided on: the row of its person.
+    pub fn row(&self, login: u16) -> Range<usize> {
+        let start = self.persons.get(usize::from(login)).map_or(0, |&person| usize::from(person)) * self.folders();
+        start..start + self.folders()
     }
 
     /// Asks for one thing, again and again.

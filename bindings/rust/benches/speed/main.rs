@@ -14,12 +14,13 @@ mod reference;
 mod baseline;
 mod inputs;
 mod paired;
+mod persons;
 mod timing;
 mod tuned;
 
 use std::hint::black_box;
 
-use housechervil::{ClassNo, ClientNo, Conflicts, FolderNo, KindNo, LoginNo, Register, Request, Serial};
+use housechervil::{ClassNo, ClientNo, Conflicts, FolderNo, KindNo, LoginNo, PersonNo, Register, Request, Serial};
 use inputs::{Input, Texts};
 use reference::{Ask, House, Reply};
 use timing::{compare, Measured, Task};
@@ -29,6 +30,7 @@ fn main() {
         println!("Beware: this build is not the plain release build for x86-64.\n");
     }
     requests();
+    requests_of_persons();
     checks();
     growth();
     requests_by_pairs();
@@ -61,7 +63,8 @@ fn by_library(input: &Input) -> impl Fn(&House, &mut [u8], Ask, &mut [u8], usize
     let conflicts = conflicts(&input.house());
     move |house, matrix, ask, log, end, serial| {
         let request = Request { login: LoginNo(ask.login), folder: FolderNo(ask.folder), kind: KindNo(ask.kind) };
-        register(house, &conflicts).request(matrix, request, log, end, Serial(serial))
+        let persons = PersonNo::from_slice(house.persons);
+        register(house, &conflicts).request(persons, matrix, request, log, end, Serial(serial))
     }
 }
 
@@ -73,15 +76,14 @@ fn asking<'a, R>(
 ) -> Task<'a> {
     let mut matrix = input.matrix.clone();
     let mut log = vec![0; 1024];
-    let folders = input.folders();
     let mut asks = input.asks.iter().cycle();
     Box::new(move |times| {
         for ask in asks.by_ref().take(times) {
             let house = input.house();
             black_box(request(black_box(&house), black_box(&mut matrix), black_box(*ask), &mut log, 0, 300));
             if restore {
-                let row = usize::from(ask.login) * folders;
-                matrix[row..row + folders].copy_from_slice(&input.matrix[row..row + folders]);
+                let row = input.row(ask.login);
+                matrix[row.clone()].copy_from_slice(&input.matrix[row]);
             }
         }
     })
@@ -135,6 +137,16 @@ fn compare_requests(input: &Input, restore: bool) -> Vec<Measured> {
 
 fn requests() {
     println!("## Request\n");
+    request_rows(inputs::requests());
+}
+
+fn requests_of_persons() {
+    println!("## Request, 128 logins whose persons stand in no order\n");
+    request_rows(persons::requests());
+}
+
+/// A table of requests, each with its name and whether the row is put back after it.
+fn request_rows(inputs: impl IntoIterator<Item = (impl AsRef<str>, Input, bool)>) {
     println!("| Request | library | Rust, linear check | Rust, tuned | Rust, quadratic check | library / linear | library / tuned | times faster than quadratic |");
     println!("|---|---|---|---|---|---|---|---|");
     let row = |name: &str, input: Input, restore: bool| {
@@ -148,8 +160,8 @@ fn requests() {
             ratio(&measured, 2)
         );
     };
-    for (name, input, restore) in inputs::requests() {
-        row(name, input, restore);
+    for (name, input, restore) in inputs {
+        row(name.as_ref(), input, restore);
     }
     println!();
 }

@@ -7,7 +7,7 @@ use crate::reference::{self, Ask, House, Refusal, Searches};
 /// A pair of clients.
 type Pair = (u16, u16);
 
-/// A register that is known to be good, and the rivals told from marks: for the making of inputs.
+/// A register that is known to be good, and the rivals by pairs told from marks: for the making of inputs.
 struct Known;
 
 impl Searches for Known {
@@ -16,6 +16,9 @@ impl Searches for Known {
     }
 
     fn rival(house: &House, row: &[u8], folder: usize) -> Option<usize> {
+        if !house.is_by_pair() {
+            return reference::rival_by_class(house, row, folder);
+        }
         let opponent = opponents(house, house.clients[folder]);
         row.iter().zip(house.clients).position(|(cell, &client)| cell & 1 != 0 && opponent[usize::from(client)])
     }
@@ -92,7 +95,7 @@ impl Input {
     }
 
     /// Some thousand requests of all sorts are made, as in a room; then a thousand more are to be asked.
-    fn after_a_history(mut self) -> Input {
+    pub fn after_a_history(mut self) -> Input {
         let mut random = Random(17);
         let mut any = |input: &Input| Ask {
             login: random.below(input.logins) as u16,

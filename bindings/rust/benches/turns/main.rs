@@ -15,6 +15,8 @@ mod inputs;
 #[allow(dead_code)]
 #[path = "../speed/paired.rs"]
 mod paired;
+#[path = "../speed/persons.rs"]
+mod persons;
 #[path = "../speed/timing.rs"]
 mod timing;
 
@@ -85,7 +87,7 @@ type Check = unsafe extern "C" fn(
 #[rustfmt::skip]
 type Request = unsafe extern "C" fn(
     usize, *const u16, usize, *const u16, usize, u8, *const u16, usize, *const u16, usize,
-    *mut u8, usize, u16, u16, u16, *mut u8, usize, usize, u16,
+    *const u16, usize, *mut u8, usize, u16, u16, u16, *mut u8, usize, usize, u16,
 ) -> Reply;
 type LogCheck = unsafe extern "C" fn(*const u8, usize) -> Placed;
 type LogStep = unsafe extern "C" fn(*const u8, usize, usize) -> LogItem;
@@ -153,7 +155,8 @@ impl Library {
             (self.request)(
                 input.logins, classes.as_ptr(), classes.len(), clients.as_ptr(), clients.len(),
                 input.mode, firsts.as_ptr(), firsts.len(), seconds.as_ptr(), seconds.len(),
-                matrix.as_mut_ptr(), matrix.len(), ask.login, ask.folder, ask.kind, log.as_mut_ptr(), log.len(), 0, 300,
+                input.persons.as_ptr(), input.persons.len(), matrix.as_mut_ptr(), matrix.len(),
+                ask.login, ask.folder, ask.kind, log.as_mut_ptr(), log.len(), 0, 300,
             )
         };
         reply
@@ -213,14 +216,13 @@ fn again<'a, R>(mut task: impl FnMut() -> R + 'a) -> Task<'a> {
 fn asking<'a>(library: Library, input: &'a Input, restore: bool) -> Task<'a> {
     let mut matrix = input.matrix.clone();
     let mut log = vec![0; 1024];
-    let folders = input.folders();
     let mut asks = input.asks.iter().cycle();
     again(move || {
         let ask = *asks.next().expect("they go round");
         black_box(library.request(black_box(input), black_box(&mut matrix), ask, &mut log));
         if restore {
-            let row = usize::from(ask.login) * folders;
-            matrix[row..row + folders].copy_from_slice(&input.matrix[row..row + folders]);
+            let row = input.row(ask.login);
+            matrix[row.clone()].copy_from_slice(&input.matrix[row]);
         }
     })
 }
@@ -266,6 +268,11 @@ fn main() {
     }
     heading("Request, other sizes");
     for (name, input, restore) in sizes() {
+        agree(turns, &input);
+        row(&name, turns.map(|library| asking(library, &input, restore)));
+    }
+    heading("Request, 128 logins whose persons stand in no order");
+    for (name, input, restore) in persons::requests() {
         agree(turns, &input);
         row(&name, turns.map(|library| asking(library, &input, restore)));
     }

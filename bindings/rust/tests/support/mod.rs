@@ -4,7 +4,7 @@
 #![allow(dead_code)]
 
 use housechervil::{
-    ClassNo, ClientNo, Conflicts, FolderNo, KindNo, LogFault, LoginNo, PackError, Register, Request, Serial,
+    ClassNo, ClientNo, Conflicts, FolderNo, KindNo, LogFault, LoginNo, PackError, PersonNo, Register, Request, Serial,
     UnpackError,
 };
 
@@ -103,10 +103,12 @@ impl Guarded {
     }
 }
 
-/// The four lists of a register, each between guards. The guards are clients of the house, other ones on each list, so that a pair
-/// read there would make a conflict.
+/// The lists of a house, each between guards. The guards are clients of the house, other ones on each list, so that a pair read there
+/// would make a conflict. Those of the person list are no persons, so that an entry read there would be 10; where the list is too short
+/// they are, so that it would be none.
 #[derive(Clone, PartialEq, Eq)]
 struct Lists {
+    persons: Guarded<u16>,
     classes: Guarded<u16>,
     clients: Guarded<u16>,
     firsts: Guarded<u16>,
@@ -117,7 +119,9 @@ impl Lists {
     fn of(house: &House) -> Lists {
         let guards = |skip: usize| house.clients.iter().copied().chain(1..).skip(skip).take(9);
         let laid = |list: &[u16], skip: usize| Guarded::laid(guards(skip), list, guards(skip));
+        let beside = [if house.persons.len() < house.logins { 0 } else { 65_535 }; 130];
         Lists {
+            persons: Guarded::laid(beside, house.persons, beside),
             classes: laid(house.classes, 3),
             clients: laid(house.clients, 2),
             firsts: laid(house.firsts, 0),
@@ -128,6 +132,7 @@ impl Lists {
     fn lend(&self, house: &House) -> House<'_> {
         House {
             logins: house.logins,
+            persons: self.persons.inner(),
             classes: self.classes.inner(),
             clients: self.clients.inner(),
             mode: house.mode,
@@ -139,10 +144,11 @@ impl Lists {
 
 // ---------------------------------------------------------------- houses
 
-/// A register that owns its lists.
+/// A house that owns its lists.
 #[derive(Clone, Debug)]
 pub struct Owned {
     pub logins: usize,
+    pub persons: Vec<u16>,
     pub classes: Vec<u16>,
     pub clients: Vec<u16>,
     pub mode: u8,
@@ -154,10 +160,16 @@ pub struct Owned {
 pub const BY_PAIR: [u8; 6] = [1, 2, 127, 128, 254, 255];
 
 impl Owned {
-    /// A register in class mode, without pairs.
+    /// A house in class mode, without pairs, each login its own person.
     pub fn new(logins: usize, labels: &[(u16, u16)]) -> Owned {
         let (classes, clients) = labels.iter().copied().unzip();
-        Owned { logins, classes, clients, mode: 0, firsts: Vec::new(), seconds: Vec::new() }
+        let persons = (0..=u16::MAX).take(logins).collect();
+        Owned { logins, persons, classes, clients, mode: 0, firsts: Vec::new(), seconds: Vec::new() }
+    }
+
+    /// The same with these persons.
+    pub fn of_persons(self, persons: &[u16]) -> Owned {
+        Owned { persons: persons.to_vec(), ..self }
     }
 
     /// The same with this mode and these pairs.
@@ -169,6 +181,7 @@ impl Owned {
     pub fn lend(&self) -> House<'_> {
         House {
             logins: self.logins,
+            persons: &self.persons,
             classes: &self.classes,
             clients: &self.clients,
             mode: self.mode,
@@ -179,6 +192,51 @@ impl Owned {
 
     pub fn folders(&self) -> usize {
         self.classes.len()
+    }
+
+    /// The row of the login's person in a matrix of this house.
+    pub fn row<'m>(&self, matrix: &'m [u8], login: u16) -> &'m [u8] {
+        let person = usize::from(self.persons[usize::from(login)]);
+        &matrix[person * self.folders()..][..self.folders()]
+    }
+
+    /// The same with persons below P: each login its own, one for all of them, two to a person, in turned order, or drawn among all or
+    /// among a few.
+    pub fn with_persons(mut self, random: &mut Random) -> Owned {
+        let logins = self.logins;
+        let (way, one, few) = (random.below(7), random.below(logins), random.range(1, logins.min(4)));
+        let mut person = |login: usize| match way {
+            0 => login,
+            1 => one,
+            2 => login / 2,
+            3 => logins - 1 - login,
+            4 => (login + one) % logins,
+            5 => (one + random.below(few)) % logins,
+            _ => random.below(logins),
+        };
+        self.persons = (0..logins).map(|login| person(login) as u16).collect();
+        self
+    }
+
+    /// Damages the person list in one way: its length, or one entry, of whichever login. Some of them happen to do no harm.
+    pub fn damage_persons(&mut self, random: &mut Random) {
+        let logins = self.logins.min(129);
+        let some = random.below(logins.max(1));
+        let len = self.persons.len();
+        match random.below(5) {
+            0 => drop(self.persons.pop()),
+            1 => self.persons.push(some as u16),
+            2 => {
+                let lengths = [0, 1, logins / 2, 2 * logins, 128, 129, 256, 256 + logins, 65_536 + logins];
+                self.persons.resize(random.pick(&lengths), some as u16);
+            }
+            _ if len == 0 => {}
+            _ => {
+                let (any, high) = (random.below(len), 256 * random.range(1, 255) + some);
+                let login = random.pick(&[0, len / 2, len - 1, any]);
+                self.persons[login] = random.pick(&[logins, logins + 1, 128, 256, high, 32_768, 65_535]) as u16;
+            }
+        }
     }
 
     /// A good register over at most `clients` clients, with sanitised folders among them.
@@ -398,6 +456,8 @@ pub fn raw_request(
             house.firsts.len(),
             house.seconds.as_ptr(),
             house.seconds.len(),
+            house.persons.as_ptr(),
+            house.persons.len(),
             matrix.as_mut_ptr(),
             matrix.len(),
             ask.login,
@@ -412,7 +472,7 @@ pub fn raw_request(
 }
 
 /// A request: both ways into the library against the reference. Answer, matrix and log with their guards, end and serial must be
-/// the same, and the register's lists stay; then matrix and log are left as the request leaves them.
+/// the same, and the house's lists stay; then matrix and log are left as the request leaves them.
 #[track_caller]
 pub fn same_request(
     house: &House,
@@ -423,7 +483,8 @@ pub fn same_request(
     serial: u16,
 ) -> Reply {
     let context = || {
-        let row = matrix.inner().get(usize::from(ask.login) * house.classes.len()..).unwrap_or_default();
+        let person = house.persons.get(usize::from(ask.login)).copied().unwrap_or_default();
+        let row = matrix.inner().get(usize::from(person) * house.classes.len()..).unwrap_or_default();
         let row = &row[..row.len().min(house.classes.len())];
         let len = log.inner().len();
         format!("{house:?}, matrix of {}, row {row:?}, {ask:?}, log of {len}, end {end}, serial {serial}", matrix.len)
@@ -450,7 +511,14 @@ pub fn same_request(
     if let Some(conflicts) = conflicts(house) {
         let register = register(house, &conflicts);
         let request = Request { login: LoginNo(ask.login), folder: FolderNo(ask.folder), kind: KindNo(ask.kind) };
-        let safe = register.request(safe_matrix.inner_mut(), request, safe_log.inner_mut(), end, Serial(serial));
+        let safe = register.request(
+            PersonNo::from_slice(house.persons),
+            safe_matrix.inner_mut(),
+            request,
+            safe_log.inner_mut(),
+            end,
+            Serial(serial),
+        );
         let answer = safe.answer.map_or_else(
             |refusal| (crate_numbers(refusal), 0),
             |granted| ([granted.number(), 0, 0], granted.taken_back),
