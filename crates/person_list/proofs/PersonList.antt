@@ -1,14 +1,16 @@
 -- Laws of the person list: an entry is its login's person; what 10 lets pass; each login its own number.
-use Prim.Native.Nat.{ℕ, zero, suc, _+_, _≤_, _<_}
+use Prim.Native.Nat.{ℕ, zero, suc, _-_, _≤_, _<_}
 use mathlib.Core.Path.{_≡_, refl, sym, ap, _∙_}
 use mathlib.Core.Logic.{⊎-elim}
-use mathlib.Core.Bool.{true, false, not}
+use mathlib.Core.Bool.{true, false, not, _||_}
 use mathlib.Core.List.{List, [], _∷_, _++_}
 use native.Mathlib.Omega.{arith}
+use native.Mathlib.Decide.{ℕ-discrete, decLt}
+use lib.Bits.{bitOr, or-zero-l, or-add-and, and-le-r}
 use lib.ListN.{length, getD, take, length-append, List·getD-append, List·getD-eq-default}
 use lib.Seq.{getD-at, take-all, take-append-le}
 use lib.Dec.{eqb, leb}
-use borrow.Author.Tests.{eqb-true, eq-eqb, not-false, leb-false, lt-leb}
+use borrow.Author.Tests.{eqb-true, eq-eqb, ne-eqb, not-false, leb-false, lt-leb, le-leb}
 use Rattle.vocabulary.specs.Those.{those, some}
 use Rattle.vocabulary.proofs.Those.{below-suc, those-empty, those-never, some-none}
 use Rattle.vocabulary.proofs.Bools.{neither}
@@ -22,6 +24,20 @@ person-entry (x ∷ xs) (suc login) h = person-entry xs login (omega (arith, h))
 
 pub person-none : (persons : List ℕ) (login : ℕ) → length persons ≤ login → personOf persons login ≡ nobody
 person-none persons login h = List·getD-eq-default persons nobody h
+
+-- What one more entry adds to what is gathered of those that exceed P less 1.
+pub gathered-next : (gathered entry p : ℕ) → 1 ≤ p → not (eqb (bitOr gathered (entry - (p - 1))) 0) ≡ (not (eqb gathered 0) || leb p entry)
+gathered-next gathered entry p h =
+    elim (ℕ-discrete gathered 0) [
+      | yes none ↦ rw (none, or-zero-l) (elim (decLt entry p) [
+        | yes k ↦ rw (eq-eqb (entry - (p - 1)) 0 (omega arith), lt-leb p entry k)
+        | no k ↦ rw (ne-eqb (entry - (p - 1)) 0 (λ z. omega arith), le-leb p entry (omega arith))
+      ])
+      | no some ↦
+          let more = or-add-and gathered (entry - (p - 1)) in
+          let least = and-le-r gathered (entry - (p - 1)) in
+          rw (ne-eqb gathered 0 some, ne-eqb (bitOr gathered (entry - (p - 1))) 0 (λ z. some (omega (arith, more, least, z))))
+    ]
 
 -- ---- what 10 lets pass
 

@@ -1,26 +1,54 @@
 // The person list: the person of each login, and refusal 10 (document 02, C-14). Lists of any length may be given.
 use ids::LoginNo;
 use ids::PersonNo;
+ghost use Prim.Native.Nat.{_-_, _≤_};
 ghost use mathlib.Core.Path.{_≡_};
 ghost use lib.Dec.{leb};
 ghost use lib.ListN.{length};
 ghost use Rattle.vocabulary.specs.Those.{those, some};
 ghost use Rattle.person_list.specs.PersonList.{badPersons, ownNumbers, personOf};
 
-// Whether an entry is P or more. Without a way out of the loop, so that it runs on many entries at once.
-fn any_beyond(logins: u16, persons: &[u16]) -> bool
+// Whether an entry is P or more, of few entries: it ends at the first. What the loop has passed has none.
+fn seek_beyond(logins: u16, persons: &[u16]) -> bool
     ensures { λ r. ⌜ r ≡ some (those (λ s. leb logins (personOf (now (persons .entry)) s)) (length (now (persons .entry)))) ⌝ }
 {
-    let mut any = false;
     let mut s = 0;
     while s < persons.len() {
-        any = any | (logins <= persons[s]);
+        if logins <= persons[s] {
+            return true;
+        }
         s += 1;
     }
-    any
+    false
 }
 
-// Whether refusal 10 speaks: the list's length is not P, or an entry is P or more. An entry has 16 bits, so none reaches a P of more.
+// By how much an entry exceeds P less 1.
+fn excess(entry: u16, last: u16) -> u16
+    ensures { λ r. ⌜ r ≡ entry - last ⌝ }
+{
+    if last < entry {
+        return entry - last;
+    }
+    0
+}
+
+// Whether an entry is P or more, of many: without a way out of the loop, and with what exceeds gathered by its bits, so that it runs on many entries
+// at once in few instructions. Invariant: nothing is gathered just where no entry before s is P or more.
+fn any_beyond(logins: u16, persons: &[u16]) -> bool
+    requires { ⌜ 1 ≤ logins ⌝ }
+    ensures { λ r. ⌜ r ≡ some (those (λ s. leb logins (personOf (now (persons .entry)) s)) (length (now (persons .entry)))) ⌝ }
+{
+    let last = logins - 1;
+    let mut gathered: u16 = 0;
+    let mut s = 0;
+    while s < persons.len() {
+        gathered = gathered | excess(persons[s], last);
+        s += 1;
+    }
+    gathered != 0
+}
+
+// Whether refusal 10 speaks: the list's length is not P, or an entry is P or more. An entry has 16 bits, so none reaches a P above 65,535.
 pub fn bad_persons(logins: usize, persons: &[u16]) -> bool
     ensures { λ r. ⌜ r ≡ badPersons logins (now (persons .entry)) ⌝ }
 {
@@ -29,6 +57,9 @@ pub fn bad_persons(logins: usize, persons: &[u16]) -> bool
     }
     if 65535 < logins {
         return false;
+    }
+    if logins < 16 {
+        return seek_beyond(logins as u16, persons);
     }
     any_beyond(logins as u16, persons)
 }

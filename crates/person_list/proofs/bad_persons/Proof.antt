@@ -24,18 +24,39 @@ returns-2 c =
     (list-passes (a .logins) persons (c .before .if1 .left)
     (λ s h. rw (person-entry persons s (omega arith)) (omega (arith, c .before .before .shared-slice-known .given s))))
 
+cast-seek-beyond : tie.Need-cast-seek-beyond
+cast-seek-beyond c = search needs
+
+seek-beyond-requires : tie.Need-seek-beyond-requires
+seek-beyond-requires c κs = search needs
+
+returns-3 : tie.Need-returns-3
+unfolding badPersons
+returns-3 c =
+    let a = c .before .before .before .before .before .args in
+    rw (eq-eqb (length (now (a .persons))) (a .logins) (c .before .before .before .if1 .left), c .seek-beyond .ensures)
+
 cast-any-beyond : tie.Need-cast-any-beyond
 cast-any-beyond c = search needs
 
 any-beyond-requires : tie.Need-any-beyond-requires
 any-beyond-requires c κs = search needs
 
-returns-3 : tie.Need-returns-3
+returns-4 : tie.Need-returns-4
 unfolding badPersons
-returns-3 c =
-    let a = c .before .before .before .before .args in
-    rw (eq-eqb (length (now (a .persons))) (a .logins) (c .before .before .if1 .left), c .any-beyond .ensures)
+returns-4 c =
+    let a = c .before .before .before .before .before .args in
+    rw (eq-eqb (length (now (a .persons))) (a .logins) (c .before .before .before .if1 .left), c .any-beyond .ensures)
 
 pub bad-persons-spec : {M : Type 1} → statement M
 bad-persons-spec =
-    tie.close (tie.spec returns returns-2 cast-any-beyond any-beyond-requires returns-3)
+    tie.close
+    (tie.spec
+    returns
+    returns-2
+    cast-seek-beyond
+    seek-beyond-requires
+    returns-3
+    cast-any-beyond
+    any-beyond-requires
+    returns-4)
