@@ -11,7 +11,7 @@ use borrow.Author.Tests.{eq-eqb, le-leb, lt-leb}
 use Rattle.vocabulary.specs.Answer.{Answer, answer, judge}
 use Rattle.vocabulary.specs.Those.{those}
 use Rattle.vocabulary.specs.Each.{each}
-use Rattle.vocabulary.proofs.Judge.{judge-append, judge-passed, passed-append}
+use Rattle.vocabulary.proofs.Judge.{judge-append, judge-passed}
 use Rattle.vocabulary.proofs.Bools.{not-both, true-or-false}
 use Rattle.log_bytes.specs.Record.{recordBytes}
 use Rattle.varint.specs.Groups.{groupsBy, groups, groupsAll}
@@ -27,7 +27,7 @@ use Rattle.policy.specs.Session.{session, request}
 use Rattle.policy.specs.Demand3.{Shows}
 use Rattle.policy.specs.Persons.{PersonRules, Rightless, NoMore, after, andThen, PersonHistories, OnePartner}
 use Rattle.policy.proofs.Accepted.{passed, in-range}
-use Rattle.policy.proofs.Outcome.{not-granted, outcome-unlogged, outcome-cases}
+use Rattle.policy.proofs.Outcome.{not-granted, row-passed, outcome-unlogged, outcome-cases}
 use Rattle.policy.proofs.Shown.{shown-read, shown-write}
 use Rattle.policy.proofs.Demand3.{kept-after}
 
@@ -75,7 +75,7 @@ module _ (r : Register) (ps : List ℕ) (bad : badPersons (r .logins) ps ≡ tru
   rights-stay σ (make u) = refl
   rights-stay σ (ask q log) =
       ⊎-elim
-      (λ d. not-both bad (passed-append (registerChecks r) (requestChecks r ps (σ .matrix) q log) (d .passed) .1 .1 .1 .0))
+      (λ d. not-both bad (row-passed r ps (σ .matrix) q log d 10))
       (λ n. rw (not-granted (outcome r ps (σ .matrix) q log .answer) (n .0)))
       (outcome-cases r ps (σ .matrix) q log)
 
