@@ -21,7 +21,7 @@ abbrev pub failsAt : ℕ → List Check → Bool
 failsAt n [] = false
 failsAt n (c ∷ cs) = cond (eqb (c .refusal .number) n) (c .fails) (failsAt n cs)
 
-passed-at : (n : ℕ) (cs : List Check) → Passed cs → failsAt n cs ≡ false
+pub passed-at : (n : ℕ) (cs : List Check) → Passed cs → failsAt n cs ≡ false
 passed-at n [] p = refl
 passed-at n (c ∷ cs) p = rw (p .0, passed-at n cs (p .1)) (cond-same (eqb (c .refusal .number) n) false)
 
