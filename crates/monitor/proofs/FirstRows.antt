@@ -20,7 +20,7 @@ use Rattle.register.proofs.Answers.{Ranged, inRange-ranged}
 use Rattle.policy.specs.Conflict.{paired}
 use Rattle.policy.specs.Rules.{rowOf, withRow, cell, rowAfter, rivals, foreigners, stakes, lost}
 use Rattle.policy.specs.Outcome.{Request, Log, Outcome, requestChecks, wallChecks, wallAnswer, decision, isLogged, recordOf, unchanged, matrixAfter, logged, outcome, told}
-use Rattle.policy.proofs.Outcome.{logged-silent, outcome-unlogged}
+use Rattle.policy.proofs.Outcome.{failsAt, passed-at, logged-silent, outcome-unlogged}
 use Rattle.policy.proofs.Rows.{row-fits, length-rowOf, withRow-rowOf}
 use Rattle.cells.specs.Above.{aboves}
 use Rattle.row_labels.specs.Fitting.{listsFit, fitting}
@@ -101,13 +101,14 @@ module _ (r : Register) (ps m : List ℕ) (q : Request) where
   opened n e =
       let p = front-logged (rw (← e)) .0 in
       let a = passed-append (registerChecks r) (frontChecks (r .logins) (folders r) ps (length m) q) p in
+      let early : (n : ℕ) → failsAt n (frontChecks (r .logins) (folders r) ps (length m) q) ≡ false = λ n. passed-at n (frontChecks (r .logins) (folders r) ps (length m) q) (a .1) in
       record {
         passed = p;
         ranged = inRange-ranged r (not-false (inRange r) (a .0 .0));
         paired = pairs-fit r (a .0 .1 .1 .1 .0);
-        whole = eqb-true (length m) (r .logins * folders r) (not-false (eqb (length m) (r .logins * folders r)) (a .1 .0));
-        person-known = person-below (r .logins) ps (a .1 .1 .1 .0) (q .login) (leb-false (r .logins) (q .login) (a .1 .1 .0));
-        folder-known = leb-false (folders r) (q .folder) (a .1 .1 .1 .1 .0);
+        whole = eqb-true (length m) (r .logins * folders r) (not-false (eqb (length m) (r .logins * folders r)) (early 4));
+        person-known = person-below (r .logins) ps (early 10) (q .login) (leb-false (r .logins) (q .login) (early 5));
+        folder-known = leb-false (folders r) (q .folder) (early 6);
       }
 
 -- The row's place in the matrix.
