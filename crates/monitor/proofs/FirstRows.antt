@@ -122,7 +122,7 @@ row-length {r} {ps} {m} {q} o = length-rowOf r m (o .whole) (personOf ps (q .log
 -- ---- what a decision leaves, in the matrix and on the row
 
 module _ (r : Register) (ps m : List ℕ) (q : Request) (log : Log) where
-  -- The person who asks, and that person's row.
+  -- The person of the login that asks, and that person's row.
   abbrev s : ℕ
   s = personOf ps (q .login)
 
@@ -222,7 +222,7 @@ module _ (p : ℕ) (classes clients : List ℕ) (byPairs : Bool) (firsts seconds
   unfolding servedOutcome servedAnswer rowAnswer fitChecks pairsFit rowGranted fitting listsFit wallAnswer wallChecks rivals paired foreigners stakes lost rowAfter
   served-folders row q log = refl
 
-  -- What a request leaves on the row of the person who asks, in its place in the matrix: the person's number times F.
+  -- What a request leaves on the row of the person of the login that asks, in its place in the matrix: the person's number times F.
   pub outcome-served : (ps m : List ℕ) (q : Request) (log : Log) → Opened register ps m q →
       servedAt (registerBy 0 classes clients byPairs firsts seconds) m (personOf ps (q .login) * length classes) q log ≡ told (outcome register ps m q log)
   unfolding servedAt
