@@ -22,8 +22,8 @@ stepsBy (suc fuel) text r persons place matrix log =
     let x : Left = leftBy (stepped text r persons place matrix log) in
     shown (x .step .text) ++ cond (x .step .onward) (stepsBy fuel text r persons (x .step .place) (x .matrix) (logOf (x .log) (x .step .tail))) []
 
--- A run: the opening, and then the steps with each login its own person, from a blank matrix and a new log. One step more than the text has bytes is enough: every
--- request line has bytes, and one step finds the end.
+-- A run: the opening, and then the steps with each login its own person, from a blank matrix and a new log. One step more than the text has bytes is
+-- enough: every request line has bytes, and one step finds the end.
 unfoldable pub run : List ℕ → List ℕ
 run text =
     let x : Opening = openingOf (opened text) in

@@ -58,8 +58,8 @@ linesText (line ∷ lines) = lineText line ++ linesText lines
 unfoldable pub ending : List ℕ → ℕ → List ℕ
 ending text place = cond (leb (length text) place) [] (badLine (lineNumber text place))
 
--- What the requests print, with a blank matrix and a new log, and then what ends the run. 'The desk program gives every login its own number' (document
--- 02, C-14).
+-- What the requests print, with a blank matrix and a new log, and then what ends the run. 'The desk program gives every login its own number'
+-- (document 02, C-14).
 unfoldable pub served : Register → List ℕ → ℕ → List ℕ
 served r text place =
     linesText (session r (ownNumbers (r .logins)) (replicate (r .logins * folders r) 0) newLog (askedAt text place .requests) .lines)

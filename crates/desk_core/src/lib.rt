@@ -28,8 +28,8 @@ fn ending(text: &[u8], place: usize) -> Text
     desk_print::bad_line(line_numbers::line_number(text, place))
 }
 
-// The line at a place, after the opening. A request is asked of the monitor, by classes, with this person list, and its answer printed; anything else ends the run, with
-// `line n 40` unless the input ends there.
+// The line at a place, after the opening. A request is asked of the monitor, by classes, with this person list, and its answer printed; anything else
+// ends the run, with `line n 40` unless the input ends there.
 pub fn step(
     text: &[u8],
     place: usize,

@@ -1,5 +1,5 @@
-// Folder, client, class, login and person numbers look alike on paper (document 01, 'The register' and 'Our forms for each place'; document 02, C-14):
-// each is a type of its own, so that one given in another's place does not build.
+// Folder, client, class, login and person numbers look alike on paper (document 01, 'The register' and 'Our forms for each place'; document 02,
+// C-14): each is a type of its own, so that one given in another's place does not build.
 ghost use mathlib.Core.Path.{_≡_};
 ghost use lib.Dec.{eqb};
 ghost use Rattle.ids.specs.Label.{labelOf};
@@ -7,7 +7,7 @@ ghost use Rattle.ids.specs.Label.{labelOf};
 // A login, numbered from 0: who asks.
 pub struct LoginNo(pub u16);
 
-// A person, numbered from 0: whose rights are asked for. A person may have several logins.
+// A person, numbered from 0: whose rights they are. A person may have several logins; 65,535 is no person.
 pub struct PersonNo(pub u16);
 
 // A folder, numbered from 0.

@@ -1,6 +1,7 @@
--- For every well-formed record a request that writes it, by classes or by pairs: 128 logins and 512 folders, of which the record's has class 1 and
--- client 1 and all others client 2, of class 1 for answer 20 and of class 2 otherwise; the pair of 1 and 2 for answer 20, and none otherwise; and
--- rights of every person on just the listed folders, to read for 20 and 21 and to write for 0 and 22. So any person list will do.
+-- For every well-formed record a request that writes it, by classes or by pairs: any number of logins that has the record's, and 512 folders, of
+-- which the record's has class 1 and client 1 and all others client 2, of class 1 for answer 20 and of class 2 otherwise; the pair of 1 and 2 for
+-- answer 20, and none otherwise; and rights of every person on just the listed folders, to read for 20 and 21 and to write for 0 and 22. So any
+-- person list will do.
 use Prim.Native.Nat.{ℕ, zero, suc, _+_, _-_, _*_, _%_, _≤_, _<_}
 use native.Mathlib.Omega.{arith}
 use mathlib.Core.Path.{_≡_, refl, sym, ap, _∙_}
@@ -139,7 +140,7 @@ cond-most : {x y most : ℕ} (b : Bool) → x ≤ most → y ≤ most → cond b
 cond-most true p q = p
 cond-most false p q = q
 
-module _ (e : Record) (byPairs : Bool) (ps : List ℕ) (pass : badPersons 128 ps ≡ false) where
+module _ (e : Record) (byPairs : Bool) (p : ℕ) (ps : List ℕ) (few : p ≤ 128) (pass : badPersons p ps ≡ false) (here : e .login < p) where
   -- A read right has to be asked of the listed folders.
   abbrev reading : Bool
   reading = eqb (e .answer) 20 || eqb (e .answer) 21
@@ -158,10 +159,10 @@ module _ (e : Record) (byPairs : Bool) (ps : List ℕ) (pass : badPersons 128 ps
   paired-with c = cond (eqb (e .answer) 20) (c ∷ []) []
 
   abbrev register : Register
-  register = registerBy 128 (listOf 512 classAt) (listOf 512 clientAt) byPairs (paired-with 1) (paired-with 2)
+  register = registerBy p (listOf 512 classAt) (listOf 512 clientAt) byPairs (paired-with 1) (paired-with 2)
 
   abbrev matrix : List ℕ
-  matrix = listOf 65536 (λ i. cellAt (i % 512))
+  matrix = listOf (p * 512) (λ i. cellAt (i % 512))
 
   abbrev request : Request
   request =
@@ -221,14 +222,14 @@ module _ (e : Record) (byPairs : Bool) (ps : List ℕ) (pass : badPersons 128 ps
   unfolding badPairs those
   no-bad-pair = by (eqb (e .answer) 20)
     where
-      by : (b : Bool) → badPairs (registerBy 128 (listOf 512 classAt) (listOf 512 clientAt) byPairs (cond b (1 ∷ []) []) (cond b (2 ∷ []) [])) ≡ false
+      by : (b : Bool) → badPairs (registerBy p (listOf 512 classAt) (listOf 512 clientAt) byPairs (cond b (1 ∷ []) []) (cond b (2 ∷ []) [])) ≡ false
       by true = refl
       by false = refl
 
   register-passed : Passed (registerChecks register)
   unfolding registerChecks later earlier
   register-passed = (
-    rw (folders-512, length-listOf 512 clientAt),
+    rw (folders-512, length-listOf 512 clientAt, le-leb 1 p (omega (arith, here)), le-leb p 128 few),
     (
       rw (those-never (loneZero register) (folders register) (λ f h. no-lone-zero f (rw folders-512 at h))),
       (
@@ -253,21 +254,21 @@ module _ (e : Record) (byPairs : Bool) (ps : List ℕ) (pass : badPersons 128 ps
 
   module _ (w : WellFormed e) where
     -- The login's person is one of the house's.
-    known : personOf ps (e .login) < 128
-    known = person-below 128 ps pass (e .login) (omega (arith, w .login))
+    known : personOf ps (e .login) < p
+    known = person-below p ps pass (e .login) here
 
     cell-at : (f : ℕ) → f < 512 → cell row f ≡ cellAt f
     cell-at f h =
         let s = personOf ps (e .login) in
         let own : (s * 512 + f) % 512 ≡ f = omega arith in
-        rw (folders-512, getD-take 512 (drop (s * 512) matrix) f 0 h, getD-drop (s * 512) matrix f 0, getD-listOf 65536 (λ i. cellAt (i % 512)) (s * 512 + f) (omega (arith, known)), own)
+        rw (folders-512, getD-take 512 (drop (s * 512) matrix) f 0 h, getD-drop (s * 512) matrix f 0, getD-listOf (p * 512) (λ i. cellAt (i % 512)) (s * 512 + f) (omega (arith, known)), own)
 
     request-passed : Passed (requestChecks register ps matrix request log)
     unfolding requestChecks
     request-passed = (
-      rw (folders-512, length-listOf 65536 (λ i. cellAt (i % 512))),
+      rw (folders-512, length-listOf (p * 512) (λ i. cellAt (i % 512)), eqb-self (p * 512)),
       (
-        lt-leb 128 (e .login) (omega (arith, w .login)),
+        lt-leb p (e .login) here,
         (
           pass,
           (
@@ -312,7 +313,7 @@ module _ (e : Record) (byPairs : Bool) (ps : List ℕ) (pass : badPersons 128 ps
       where
         by : (mode own t : Bool) →
             cond mode
-            (paired (registerBy 128 (listOf 512 classAt) (listOf 512 clientAt) byPairs (cond t (1 ∷ []) []) (cond t (2 ∷ []) [])) (cond own 1 2) 1)
+            (paired (registerBy p (listOf 512 classAt) (listOf 512 clientAt) byPairs (cond t (1 ∷ []) []) (cond t (2 ∷ []) [])) (cond own 1 2) 1)
             (eqb (cond own 1 (cond t 1 2)) 1 && not (eqb (cond own 1 2) 1))
             ≡ (t && not own)
         by true true true = refl
@@ -409,9 +410,9 @@ module _ (e : Record) (byPairs : Bool) (ps : List ℕ) (pass : badPersons 128 ps
     unfolding outcome logged
     answered = rw (decided, told, le-ltb (length (log .bytes) - 0) (length (recordBytes e)) (rw length-replicate (omega arith)))
 
-    person-most : (s : ℕ) → (s < 128) ⊎ (128 ≤ s) → personOf ps s ≤ 65535
-    person-most s (inl h) = omega (arith, person-below 128 ps pass s h)
-    person-most s (inr h) = rw (person-none ps s (rw (list-whole 128 ps pass) h)) (omega arith)
+    person-most : (s : ℕ) → (s < p) ⊎ (p ≤ s) → personOf ps s ≤ 65535
+    person-most s (inl h) = omega (arith, few, person-below p ps pass s h)
+    person-most s (inr h) = rw (person-none ps s (rw (list-whole p ps pass) h)) (omega arith)
 
     pub witness : LoggedRequest
     witness =
@@ -430,6 +431,10 @@ module _ (e : Record) (byPairs : Bool) (ps : List ℕ) (pass : badPersons 128 ps
     unfolding witness
     witness-mode = refl
 
+    pub witness-logins : witness .register .logins ≡ p
+    unfolding witness
+    witness-logins = refl
+
     pub witness-persons : witness .persons ≡ ps
     unfolding witness
     witness-persons = refl
@@ -442,8 +447,8 @@ module _ (e : Record) (byPairs : Bool) (ps : List ℕ) (pass : badPersons 128 ps
           clients = listOf-most 512 65535 clientAt (λ f. cond-most (eqb f (e .folder)) (omega arith) (omega arith));
           firsts = paired-most 1 (omega arith);
           seconds = paired-most 2 (omega arith);
-          persons = λ s. person-most s (lt-or-le s 128);
-          matrix = λ i. omega (arith, listOf-most 65536 2 (λ k. cellAt (k % 512)) (λ k. cond-most (member (k % 512) (e .list)) (cond-most reading (omega arith) (omega arith)) (omega arith)) i);
+          persons = λ s. person-most s (lt-or-le s p);
+          matrix = λ i. omega (arith, listOf-most (p * 512) 2 (λ k. cellAt (k % 512)) (λ k. cond-most (member (k % 512) (e .list)) (cond-most reading (omega arith) (omega arith)) (omega arith)) i);
           log = λ i. rw (getD-zeros (length (recordBytes e)) i) (omega arith);
         }
 

@@ -1,7 +1,7 @@
--- The log is exact: the reader accepts the records that the writer can write, no other bytes, and yields the same fields. The records
--- 'are meant over all registers and rows, blank start or not' (document 01, 'The log'), registers by classes and by pairs (document 02, C-12), and over
--- every person list (C-14).
-use Prim.Native.Nat.{ℕ, _+_, _≤_}
+-- The log is exact: the reader accepts the records that the writer can write, no other bytes, and yields the same fields. The records 'are meant over
+-- all registers and rows, blank start or not' (document 01, 'The log'), registers by classes and by pairs (document 02, C-12), and over every person
+-- list (C-14).
+use Prim.Native.Nat.{ℕ, _+_, _≤_, _<_}
 use mathlib.Core.Path.{_≡_}
 use mathlib.Core.Bool.{Bool, true, false}
 use mathlib.Core.List.{List, _++_}
@@ -15,7 +15,8 @@ use Rattle.log_records.specs.RecordAt.{Entry, entry, entryAt}
 use Rattle.audit_log.specs.Reader.{listFrom, stepAt, placeAfter}
 use Rattle.policy.specs.Outcome.{Request, Log, Outcome, isLogged, recordOf, outcome}
 
--- A request that the writer has logged: to an accepted register, in either mode, with any person list, on any matrix and log, with a serial of 16 bits.
+-- A request that the writer has logged: to an accepted register, in either mode, with any person list, on any matrix and log, with a serial of 16
+-- bits.
 pub record LoggedRequest : Type 0 where
   pub register : Register
   pub persons : List ℕ
@@ -70,7 +71,9 @@ pub record LogExact : Type 0 where
   pub reads-new : (w : LoggedRequest) → stepAt (left w .log .bytes) (w .log .end) ≡ entry (entryAt (w .log .end) (recorded w))
   -- The place after it is the log's new end.
   pub new-end : (w : LoggedRequest) → placeAfter (w .log .end) (stepAt (left w .log .bytes) (w .log .end)) ≡ left w .log .end
-  -- Whatever a step accepts in a list of bytes, some request wrote that can be made, to a register by classes and also to one by pairs, and with every
-  -- person list of 128 logins that 10 lets pass.
-  pub accepts : (byPairs : Bool) (persons : List ℕ) → badPersons 128 persons ≡ false → (log : List ℕ) (place : ℕ) (e : Entry) → Bytes log →
-      stepAt log place ≡ entry e → (w : LoggedRequest) × (w .register .byPairs ≡ byPairs) × (w .persons ≡ persons) × CanBeMade w × Yields log place w
+  -- Whatever a step accepts in a list of bytes has a login below 128; and some request wrote it that can be made: by classes and also by pairs, in a
+  -- house of any number of logins up to 128 that has this one, and with every person list that 10 lets pass there.
+  pub few-logins : (log : List ℕ) (place : ℕ) (e : Entry) → Bytes log → stepAt log place ≡ entry e → e .login < 128
+  pub accepts : (byPairs : Bool) (p : ℕ) (persons : List ℕ) → p ≤ 128 → badPersons p persons ≡ false → (log : List ℕ) (place : ℕ) (e : Entry) → Bytes log →
+      stepAt log place ≡ entry e → e .login < p →
+      (w : LoggedRequest) × (w .register .byPairs ≡ byPairs) × (w .register .logins ≡ p) × (w .persons ≡ persons) × CanBeMade w × Yields log place w

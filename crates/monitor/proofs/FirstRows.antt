@@ -20,7 +20,7 @@ use Rattle.register.proofs.Answers.{Ranged, inRange-ranged}
 use Rattle.policy.specs.Conflict.{paired}
 use Rattle.policy.specs.Rules.{rowOf, withRow, cell, rowAfter, rivals, foreigners, stakes, lost}
 use Rattle.policy.specs.Outcome.{Request, Log, Outcome, requestChecks, wallChecks, wallAnswer, decision, isLogged, recordOf, unchanged, matrixAfter, logged, outcome, told}
-use Rattle.policy.proofs.Outcome.{logged-silent, outcome-unlogged}
+use Rattle.policy.proofs.Outcome.{failsAt, passed-at, logged-silent, outcome-unlogged}
 use Rattle.policy.proofs.Rows.{row-fits, length-rowOf, withRow-rowOf}
 use Rattle.cells.specs.Above.{aboves}
 use Rattle.row_labels.specs.Fitting.{listsFit, fitting}
@@ -101,13 +101,14 @@ module _ (r : Register) (ps m : List ℕ) (q : Request) where
   opened n e =
       let p = front-logged (rw (← e)) .0 in
       let a = passed-append (registerChecks r) (frontChecks (r .logins) (folders r) ps (length m) q) p in
+      let early : (n : ℕ) → failsAt n (frontChecks (r .logins) (folders r) ps (length m) q) ≡ false = λ n. passed-at n (frontChecks (r .logins) (folders r) ps (length m) q) (a .1) in
       record {
         passed = p;
         ranged = inRange-ranged r (not-false (inRange r) (a .0 .0));
         paired = pairs-fit r (a .0 .1 .1 .1 .0);
-        whole = eqb-true (length m) (r .logins * folders r) (not-false (eqb (length m) (r .logins * folders r)) (a .1 .0));
-        person-known = person-below (r .logins) ps (a .1 .1 .1 .0) (q .login) (leb-false (r .logins) (q .login) (a .1 .1 .0));
-        folder-known = leb-false (folders r) (q .folder) (a .1 .1 .1 .1 .0);
+        whole = eqb-true (length m) (r .logins * folders r) (not-false (eqb (length m) (r .logins * folders r)) (early 4));
+        person-known = person-below (r .logins) ps (early 10) (q .login) (leb-false (r .logins) (q .login) (early 5));
+        folder-known = leb-false (folders r) (q .folder) (early 6);
       }
 
 -- The row's place in the matrix.
@@ -121,7 +122,7 @@ row-length {r} {ps} {m} {q} o = length-rowOf r m (o .whole) (personOf ps (q .log
 -- ---- what a decision leaves, in the matrix and on the row
 
 module _ (r : Register) (ps m : List ℕ) (q : Request) (log : Log) where
-  -- The person who asks, and that person's row.
+  -- The person of the login that asks, and that person's row.
   abbrev s : ℕ
   s = personOf ps (q .login)
 
@@ -221,7 +222,7 @@ module _ (p : ℕ) (classes clients : List ℕ) (byPairs : Bool) (firsts seconds
   unfolding servedOutcome servedAnswer rowAnswer fitChecks pairsFit rowGranted fitting listsFit wallAnswer wallChecks rivals paired foreigners stakes lost rowAfter
   served-folders row q log = refl
 
-  -- What a request leaves on the row of the person who asks, in its place in the matrix: the person's number times F.
+  -- What a request leaves on the row of the person of the login that asks, in its place in the matrix: the person's number times F.
   pub outcome-served : (ps m : List ℕ) (q : Request) (log : Log) → Opened register ps m q →
       servedAt (registerBy 0 classes clients byPairs firsts seconds) m (personOf ps (q .login) * length classes) q log ≡ told (outcome register ps m q log)
   unfolding servedAt

@@ -1,4 +1,5 @@
--- Internal: the first rows of the table, as the code judges them before the row of the person who asks. No rule of document 01 stands here.
+-- Internal: the first rows of the table, as the code judges them before the row of the person of the login that asks. No rule of document 01 stands
+-- here.
 use Prim.Native.Nat.{ℕ, _*_}
 use mathlib.Core.Bool.{not, _&&_}
 use mathlib.Core.List.{List, [], _∷_, _++_}
@@ -22,7 +23,7 @@ frontChecks p f persons size q =
 abbrev pub passed : Answer
 passed = answer 0 (0 ∷ [])
 
--- What rows 4 to 7 say.
+-- What rows 4 to 7, with 10 after 5, say.
 unfoldable pub fourToSeven : (p f : ℕ) (persons : List ℕ) (size : ℕ) → Request → Answer
 fourToSeven p f persons size q = judge (frontChecks p f persons size q) passed
 

@@ -36,7 +36,8 @@ fn known(logins: usize, folders: usize, persons: &[u16], size: usize, asked: Req
     Response::Granted(0)
 }
 
-// Rows 1 to 7, 10 and 11; `size` is the matrix's length. The labels are judged apart from the pairs, so that by classes the lists of pairs cost nothing.
+// Rows 1 to 7, 10 and 11; `size` is the matrix's length. The labels are judged apart from the pairs, so that by classes the lists of pairs cost
+// nothing.
 pub(crate) fn judge_front(
     logins: usize,
     classes: &[u16],

@@ -8,7 +8,7 @@ ghost use Prim.Native.Nat.{_*_, _<_, _^_};
 ghost use mathlib.Core.Path.{_≡_};
 ghost use Rattle.register.specs.Lent.{lentBy};
 ghost use Rattle.policy.specs.Outcome.{outcome, told};
-ghost use Rattle.log_writer.specs.Reply.{requestOf, logOf, replied};
+ghost use Rattle.log_writer.specs.Reply.{requestOf, lentLog, replied};
 
 mod front; // register, matrix and request judged
 
@@ -34,7 +34,7 @@ pub fn request(
     log: &mut [u8],
     tail: Tail,
 ) -> Reply
-    ensures { λ r. ⌜ replied r (now (matrix .exit)) (now (log .exit)) ≡ told (outcome (lentBy logins classes clients «by_pairs» firsts seconds) (now (persons .entry)) (now (matrix .entry)) (requestOf asked) (logOf (now (log .entry)) tail)) ⌝ }
+    ensures { λ r. ⌜ replied r (now (matrix .exit)) (now (log .exit)) ≡ told (outcome (lentBy logins classes clients «by_pairs» firsts seconds) (now (persons .entry)) (now (matrix .entry)) (requestOf asked) (lentLog log tail)) ⌝ }
 {
     let first = front::judge_front(
         logins,

@@ -10,7 +10,8 @@ use Rattle.vocabulary.specs.Those.{those, some}
 abbrev pub nobody : ℕ
 nobody = 65535
 
--- The person of a login. A login that the list does not have is no person; such is every unknown login, where the list has one entry for each.
+-- The person of a login; nobody for a login past the list's end. (A list longer than P would give an unknown login a person; it gets 10, so nothing
+-- is granted.)
 abbrev pub personOf : List ℕ → ℕ → ℕ
 personOf persons login = getD persons login nobody
 

@@ -8,11 +8,11 @@ use native.Mathlib.Decide.{ℕ-discrete}
 use lib.Dec.{eqb, leb}
 use borrow.Author.Tests.{eqb-true, not-false, leb-false}
 use Rattle.vocabulary.specs.Answer.{Answer, answer}
-use Rattle.vocabulary.proofs.Judge.{Passed, passed-append}
+use Rattle.vocabulary.proofs.Judge.{Passed}
 use Rattle.vocabulary.proofs.Bools.{not-both, true-or-false}
 use Rattle.person_list.specs.PersonList.{personOf}
 use Rattle.person_list.proofs.PersonList.{person-below}
-use Rattle.register.specs.Register.{Register, folders, clientOf, registerChecks, Accepted}
+use Rattle.register.specs.Register.{Register, folders, clientOf, Accepted}
 use Rattle.policy.specs.Rules.{rowOf, withRow, cell, canRead, canWrite, reads, writes, rival, foreign, atStake, lost, rowAfter}
 use Rattle.policy.specs.Outcome.{Request, Log, outcome, requestChecks, wallChecks, wallAnswer, byWall, isLogged, matrixAfter}
 use Rattle.policy.specs.Wall.{Rights, Needful, Conflict, wallOf, joined, afterGrant}
@@ -20,7 +20,7 @@ use Rattle.policy.specs.History.{Step, ask, make, State, blank, rightsAf
 use Rattle.policy.specs.Demand3.{Shows, Demand3}
 use Rattle.policy.proofs.Conflict.{tells, lawful, conflict-of, conflict-told}
 use Rattle.policy.proofs.Wall.{Clean, Contained, Grantable, unbroken, used-kept, more-kept, grant-clean, joined-read, joined-write, asked-read, asked-write, meets, strays}
-use Rattle.policy.proofs.Outcome.{met, not-granted, Decided, outcome-cases}
+use Rattle.policy.proofs.Outcome.{failsAt, met, not-granted, Decided, row-passed, outcome-cases}
 use Rattle.policy.proofs.Rules.{kind-asks, rival-found, foreign-found, stake-found, rival-read, rival-conflict, foreign-read, foreign-unsanitised, foreign-other, stake-write, stake-other, stake-unsanitised, no-rivals, no-foreigners, stake-lost, wall-granted, InTheWay, in-the-way}
 use Rattle.policy.proofs.Shown.{blank-shown, shown-read, shown-write, read-known, write-known, grant-length, grant-cells}
 
@@ -59,20 +59,20 @@ module _ (r : Register) (ok : Accepted r) (ps : List ℕ) (σ : State) (kept : K
   abbrev row : List ℕ
   row = rowOf r (σ .matrix) s
 
-  early : Passed (requestChecks r ps (σ .matrix) q log)
-  early = passed-append (registerChecks r) (requestChecks r ps (σ .matrix) q log) (d .passed) .1
+  early : (n : ℕ) → failsAt n (requestChecks r ps (σ .matrix) q log) ≡ false
+  early = row-passed r ps (σ .matrix) q log d
 
   known : s < r .logins
   unfolding requestChecks
-  known = person-below (r .logins) ps (early .1 .1 .0) (q .login) (leb-false (r .logins) (q .login) (early .1 .0))
+  known = person-below (r .logins) ps (early 10) (q .login) (leb-false (r .logins) (q .login) (early 5))
 
   here : o < folders r
   unfolding requestChecks
-  here = leb-false (folders r) o (early .1 .1 .1 .0)
+  here = leb-false (folders r) o (early 6)
 
   kind-known : (leb 1 (q .kind) && leb (q .kind) 4) ≡ true
   unfolding requestChecks
-  kind-known = not-false (leb 1 (q .kind) && leb (q .kind) 4) (early .1 .1 .1 .1 .0)
+  kind-known = not-false (leb 1 (q .kind) && leb (q .kind) 4) (early 7)
 
   pub readable : (f : ℕ) → σ .rights .read s f ≡ true → canRead (cell row f) ≡ true
   readable f e = shown-read r σ (kept .shown) s f ∙ e

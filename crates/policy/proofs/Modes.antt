@@ -17,6 +17,7 @@ use Rattle.policy.specs.Rules.{rowOf, cell, canRead, rivals, foreigners,
 use Rattle.policy.specs.Outcome.{Request, Log, requestChecks, wallChecks, wallAnswer, decision, outcome}
 use Rattle.policy.specs.Modes.{inPairs, WrittenOut, SameByPairs}
 use Rattle.policy.proofs.Accepted.{passed}
+use Rattle.policy.proofs.Outcome.{passed-at}
 use Rattle.policy.proofs.Conflict.{ConflictLaws, by-classes, Named, pair-named}
 
 module _ (r : Register) (ok : Accepted r) (mode : r .byPairs ≡ false) (firsts seconds : List ℕ) (w : WrittenOut r firsts seconds) where
@@ -89,7 +90,7 @@ module _ (r : Register) (ok : Accepted r) (mode : r .byPairs ≡ false) (firsts 
         rw (judge-append (registerChecks p), judge-append (registerChecks r), judge-passed (registerChecks p) _ pass, judge-passed (registerChecks r) _ (passed r ok))
         (⊎-elim
         (λ e. e)
-        (λ a. ap (judge (requestChecks r ps m q log)) (wall-same (rowOf r m (personOf ps (q .login))) (q .folder) (q .kind) (leb-false (folders r) (q .folder) (a .1 .1 .1 .0))))
+        (λ a. ap (judge (requestChecks r ps m q log)) (wall-same (rowOf r m (personOf ps (q .login))) (q .folder) (q .kind) (leb-false (folders r) (q .folder) (passed-at 6 (requestChecks r ps m q log) a))))
         (judge-either (requestChecks r ps m q log) (wallAnswer p (rowOf r m (personOf ps (q .login))) (q .folder) (q .kind)) (wallAnswer r (rowOf r m (personOf ps (q .login))) (q .folder) (q .kind))))
 
     outcome-same : outcome p ps m q log ≡ outcome r ps m q log

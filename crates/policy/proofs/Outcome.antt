@@ -8,13 +8,22 @@ use lib.ListN.{length}
 use lib.Dec.{eqb, ltb}
 use borrow.Author.Tests.{eqb-true}
 use Rattle.vocabulary.specs.Answer.{Answer, Check, answer, judge}
-use Rattle.vocabulary.proofs.Judge.{Passed, noneSays, judge-silent}
-use Rattle.vocabulary.proofs.Bools.{either, neither, true-or-false}
+use Rattle.vocabulary.proofs.Judge.{Passed, noneSays, judge-silent, passed-append}
+use Rattle.vocabulary.proofs.Bools.{either, neither, true-or-false, cond-same}
 use Rattle.log_bytes.specs.Record.{recordBytes}
 use Rattle.person_list.specs.PersonList.{personOf}
 use Rattle.register.specs.Register.{Register, registerChecks}
 use Rattle.policy.specs.Rules.{rowOf}
 use Rattle.policy.specs.Outcome.{Request, Log, Outcome, requestChecks, wallAnswer, decision, byWall, isLogged, recordOf, unchanged, matrixAfter, logged, outcome}
+
+-- Whether a table's check of this number fails, wherever it stands.
+abbrev pub failsAt : ℕ → List Check → Bool
+failsAt n [] = false
+failsAt n (c ∷ cs) = cond (eqb (c .refusal .number) n) (c .fails) (failsAt n cs)
+
+pub passed-at : (n : ℕ) (cs : List Check) → Passed cs → failsAt n cs ≡ false
+passed-at n [] p = refl
+passed-at n (c ∷ cs) p = rw (p .0, passed-at n cs (p .1)) (cond-same (eqb (c .refusal .number) n) false)
 
 -- An answer that is to be logged is none of a table's whose checks have other numbers.
 pub logged-silent : (table : List Check) (x : Answer) →
@@ -50,6 +59,10 @@ module _ (r : Register) (ps m : List ℕ) (q : Request) (log : Log) where
     pub passed : Passed (registerChecks r ++ requestChecks r ps m q log)
     pub answered : outcome r ps m q log .answer ≡ met
     pub left : outcome r ps m q log .matrix ≡ matrixAfter r (personOf ps (q .login)) m q met
+
+  -- Then each row of the table from 4 on was passed, whatever their order.
+  pub row-passed : Decided → (n : ℕ) → failsAt n (requestChecks r ps m q log) ≡ false
+  row-passed d n = passed-at n (requestChecks r ps m q log) (passed-append (registerChecks r) (requestChecks r ps m q log) (d .passed) .1)
 
   decision-logged : isLogged (decision r ps m q log) ≡ true → Passed (registerChecks r ++ requestChecks r ps m q log) × (decision r ps m q log ≡ met)
   unfolding decision registerChecks requestChecks

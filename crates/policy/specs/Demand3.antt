@@ -1,5 +1,5 @@
--- Demand 3 (document 01, 'Who holds what'; document 02, C-12 and C-14): no sequence of requests and uses breaks the wall, the matrix shows just the rights
--- that stand, and no 20, 21 or 22 is given needlessly.
+-- Demand 3 (document 01, 'Who holds what'; document 02, C-12 and C-14): no sequence of requests and uses breaks the wall, the matrix shows just the
+-- rights that stand, and no 20, 21 or 22 is given needlessly.
 use Prim.Native.Nat.{ℕ, _*_}
 use mathlib.Core.Path.{_≡_}
 use mathlib.Core.Bool.{true}
@@ -36,7 +36,7 @@ pub record Safe (r : Register) (persons : List ℕ) (steps : List Step) : Type 0
   pub shown : Shows r (run r persons (blank r) steps)
   pub needful : NeedfulRefusals r persons steps
 
--- Demand 3, whole: of every accepted register, by classes or by pairs, and any person list, both of which are kept throughout, and every list of steps.
--- (With a person list that gets 10 nothing is ever granted.)
+-- Demand 3, whole: of every accepted register, by classes or by pairs, and any person list, both of which are kept throughout, and every list of
+-- steps. (With a person list that gets 10 nothing is ever granted.)
 abbrev pub Demand3 : Type 0
 Demand3 = (r : Register) → Accepted r → (persons : List ℕ) (steps : List Step) → Safe r persons steps

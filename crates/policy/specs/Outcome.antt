@@ -46,7 +46,7 @@ requestChecks r persons matrix q log =
     ∷ check (ltb (length (log .bytes)) (log .end)) 9 []
     ∷ []
 
--- Rows 20 to 22: the wall, over the row of the person who asks.
+-- Rows 20 to 22: the wall, over the row of the person of the login that asks.
 unfoldable pub wallChecks : Register → List ℕ → ℕ → ℕ → List Check
 wallChecks r row o kind =
     check (some (rivals r row o)) 20 (smallest (rivals r row o) ∷ [])

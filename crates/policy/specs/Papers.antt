@@ -1,7 +1,7 @@
 -- The 1989 paper's theorems 1, 2 and 4 about the histories of demand 3: corollaries, so that a reader of the paper finds them; in terms of conflict,
--- for both modes (document 02, C-12), and by classes, as the paper has them. The paper's subject is the user: theorems 1 and 2 speak of what a person
--- may read, by whichever of that person's logins it was asked for, and theorem 4 of what all persons together do (C-14). Access is a read right here: write rights may be gathered over many
--- clients, even in conflict, while nothing unsanitised has been read.
+-- for both modes (document 02, C-12), and by classes, as the paper has them. The paper's subject is the user, and so is it here: theorems 1 and 2 are
+-- about a person, whichever of that person's logins asks (C-14); theorem 4 is about what folders hold after everybody's steps. Access is a read right
+-- here: write rights may be gathered over many clients, even in conflict, while nothing unsanitised has been read.
 use Prim.Native.Nat.{ℕ}
 use mathlib.Core.Path.{_≡_}
 use mathlib.Core.Bool.{true, false}
@@ -15,7 +15,7 @@ use Rattle.policy.specs.History.{Step, blank, run}
 
 -- Theorem 1: 'Once a subject has accessed an object the only other objects accessible by that subject lie within the same company
 -- dataset or within a different conflict of interest class.' A request for a folder whose client is in conflict with that of one that the person
--- may read is never granted, to none of that person's logins.
+-- may read is never granted, to any of that person's logins.
 abbrev pub Theorem1 : Type 0
 Theorem1 =
     (r : Register) → Accepted r → (persons : List ℕ) (steps : List Step) (f : ℕ) (q : Request) (log : Log) →

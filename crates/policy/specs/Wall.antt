@@ -70,7 +70,7 @@ atFirst w =
       folder = λ f c. Own w f c;
     }
 
--- A use of a right: by whom, and of which folder.
+-- A use of a right: by a login in a step of a history, by a person where `used` carries it out; and of which folder.
 pub data Use : Type 0 where
   reading : ℕ → ℕ → Use
   writing : ℕ → ℕ → Use
@@ -106,8 +106,8 @@ pub record Strayed (w : Wall) (h : Held) : Type 0 where
   pub holds : h .folder folder client
   pub not-own : Own w folder client → ⊥
 
--- The wall is broken if a person (document 02, C-14; in document 01 a login) holds 'two clients in conflict' (C-12; in document 01 'two clients of one
--- class'), 'or a folder a client not its own'.
+-- The wall is broken if a person (document 02, C-14; in document 01 a login) holds 'two clients in conflict' (C-12; in document 01 'two clients of
+-- one class'), 'or a folder a client not its own'.
 abbrev pub Broken : Wall → Held → Type 0
 Broken w h = TwoHeld w h ⊎ Strayed w h
 

@@ -1,6 +1,7 @@
-// What the wall says of a request, on the row of the login that asks, and whether a grant takes write rights back (document 01, 'The four kinds of
-// request'; document 02, C-12). The row is given by the matrix and its start; its folders are those of the classes' list. Rows, lists and folders of any
-// places, lengths and numbers may be given; whether they fit is asked before any walk. Kind and cells are judged by the caller.
+// What the wall says of a request, on the row of the person of the login that asks, and whether a grant takes write rights back (document 01, 'The
+// four kinds of request'; document 02, C-12 and C-14). The row is given by the matrix and its start; its folders are those of the classes' list.
+// Rows, lists and folders of any places, lengths and numbers may be given; whether they fit is asked before any walk. Kind and cells are judged by
+// the caller.
 use cell_rules::Sort;
 use ids::FolderNo;
 use ids::Label;
@@ -21,7 +22,7 @@ ghost use Rattle.row.specs.Row.{rowAnswer, rulingAnswer, ruled, lostOn};
 
 mod walks; // the searches through a row
 
-// The answer to a request, on the row of the login that asks.
+// The answer to a request, on the row of the person of the login that asks.
 pub enum Ruling {
     // 1: the lists are not of the row's length, or it has over 512 folders
     Unfit,
@@ -72,7 +73,7 @@ fn rule_read(
     Ruling::Granted
 }
 
-// What a login whose row this is gets for a request of this folder and kind, by classes; whatever pairs came with the register are not looked at.
+// What the person whose row this is gets for a request of this folder and kind, by classes; whatever pairs came with the register are not looked at.
 pub fn decide_by_classes(
     matrix: &[u8],
     start: usize,
@@ -143,7 +144,7 @@ fn read_by_pairs(
     rule_read(matrix, start, classes, clients, o, kind)
 }
 
-// What a login whose row this is gets for a request of this folder and kind, by pairs.
+// What the person whose row this is gets for a request of this folder and kind, by pairs.
 pub fn decide_by_pairs(
     matrix: &[u8],
     start: usize,

@@ -1,6 +1,6 @@
-// The decision on a request, on the row of the login that asks (document 01, 'Where each refusal is checked'; document 02, C-12): 1 for a row of over
-// 512 folders, rows 8 and 9 of the table, then what the row's crate says. The row is given by the matrix and its start; its folders are those of the
-// classes' list. Any row, lists and folder may be given; the kind is judged by the caller.
+// The decision on a request, on the row of the person of the login that asks (document 01, 'Where each refusal is checked'; document 02, C-12 and
+// C-14): 1 for a row of over 512 folders, rows 8 and 9 of the table, then what the row's crate says. The row is given by the matrix and its start;
+// its folders are those of the classes' list. Any row, lists and folder may be given; the kind is judged by the caller.
 use ids::FolderNo;
 use ids::Request;
 use log_writer::Tail;

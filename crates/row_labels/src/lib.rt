@@ -1,5 +1,5 @@
-// The two lists of labels that a caller lends beside a login's row: whether they fit it, and a folder's label. The row is given by the matrix and its
-// start; its folders are those of the classes' list. Rows, lists and folders of any places, lengths and numbers may be given.
+// The two lists of labels that a caller lends beside a person's row: whether they fit it, and a folder's label. The row is given by the matrix and
+// its start; its folders are those of the classes' list. Rows, lists and folders of any places, lengths and numbers may be given.
 use ids::ClassNo;
 use ids::ClientNo;
 use ids::FolderNo;

@@ -1,4 +1,4 @@
--- Comments cite document 01 by its sections; docs/RULES.md says it in words, under the same headings.
+-- Comments cite document 01 by its sections and document 02 by its requests; docs/RULES.md says both in words, under the same headings.
 -- The words of every definition:
 pub mod Answer
 pub mod Those

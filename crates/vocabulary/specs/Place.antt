@@ -1,4 +1,5 @@
--- A row in the matrix, and the place of a walk over it (document 01, 'The matrix': F cells for each login, login by login; document 02, C-13).
+-- A row in the matrix, F cells for each person, person by person, and the place of a walk over it (document 01, 'The matrix'; document 02, C-13 and
+-- C-14).
 use Prim.Native.Nat.{ℕ, _+_, _*_}
 use mathlib.Core.Path.{_≡_}
 use mathlib.Core.List.{List, _++_}
