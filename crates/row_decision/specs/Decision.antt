@@ -2,20 +2,16 @@
 -- A row of over 512 folders gets 1 before its cells are looked at; lists of another length get 1, pairs that do not fit 11 (document 02, C-12), and a
 -- folder that is not in the row 6, only after rows 8 and 9, as `row` says. Row 7 is not judged here: a kind other than 1 to 4 asks for nothing.
 use Prim.Native.Nat.{ℕ}
-use mathlib.Core.Bool.{Bool, true, false}
+use mathlib.Core.Bool.{cond}
 use mathlib.Core.List.{List, [], _∷_}
-use lib.Dec.{ltb}
+use lib.Dec.{eqb, ltb}
 use lib.ListN.{length}
 use Rattle.vocabulary.specs.Answer.{Answer, Check, answer, check, judge}
 use Rattle.vocabulary.specs.Those.{some, smallest}
 use Rattle.cells.specs.Above.{aboves}
 use Rattle.register.specs.Register.{Register}
-use Rattle.response.specs.Response.{responseAnswer}
-use Rattle.policy.specs.Outcome.{Request, isLogged}
+use Rattle.policy.specs.Outcome.{Request}
 use Rattle.row.specs.Row.{rowAnswer}
-use Rattle.log_writer.specs.Logged.{refusalAnswer}
-use Rattle.row_decision.specs.declared.Decision.{Decision}
-use Rattle.row_decision.specs.declared.Decision.the-variants.{Granted, Barred, Refused}
 
 -- Row 1 as far as it concerns the row, and rows 8 and 9, of the row, the log's length and its end.
 unfoldable pub rowChecks : List ℕ → (size end : ℕ) → List Check
@@ -29,33 +25,6 @@ rowChecks row size end =
 unfoldable pub servedAnswer : Register → List ℕ → Request → (size end : ℕ) → Answer
 servedAnswer r row q size end = judge (rowChecks row size end) (rowAnswer r row (q .folder) (q .kind))
 
--- What a decision says: an answer, and whether it is logged.
-pub record Judged : Type 0 where
-  pub answer : Answer
-  pub logged : Bool
-
--- A decision, by document 01's numbers; of a grant the number alone.
-abbrev pub judgedBy : Decision → Judged
-judgedBy Granted =
-    record {
-      answer = answer 0 [];
-      logged = true;
-    }
-judgedBy (Barred refusal) =
-    record {
-      answer = refusalAnswer refusal;
-      logged = true;
-    }
-judgedBy (Refused response) =
-    record {
-      answer = responseAnswer response;
-      logged = false;
-    }
-
--- An answer, and whether the rules log it.
-abbrev pub judgedAs : Answer → Judged
-judgedAs a =
-    record {
-      answer = a;
-      logged = isLogged a;
-    }
+-- A decision as it is handed on: a grant is not carried out yet, so nothing is told as taken back.
+abbrev pub decidedAs : Answer → Answer
+decidedAs a = cond (eqb (a .number) 0) (answer 0 (0 ∷ [])) a

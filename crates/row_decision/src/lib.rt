@@ -4,42 +4,33 @@
 use ids::FolderNo;
 use ids::Request;
 use log_writer::Tail;
-use log_writer::WallRefusal;
 use response::Response;
 use row::Ruling;
 ghost use mathlib.Core.Path.{_≡_};
 ghost use Rattle.vocabulary.specs.Place.{lentRow};
 ghost use Rattle.register.specs.Lent.{lentFoldersBy};
-ghost use Rattle.row.specs.Row.{rulingAnswer, ruled};
+ghost use Rattle.response.specs.Response.{responseAnswer};
+ghost use Rattle.row.specs.Row.{rulingAnswer};
 ghost use Rattle.log_writer.specs.Reply.{requestOf};
-ghost use Rattle.row_decision.specs.Decision.{judgedBy, judgedAs, servedAnswer};
+ghost use Rattle.row_decision.specs.Decision.{decidedAs, servedAnswer};
 
-// What is to be done about a request.
-pub enum Decision {
-    // 0: to be logged and entered
-    Granted,
-    // 20, 21 or 22: to be logged
-    Barred(WallRefusal),
-    // any other refusal: to be told
-    Refused(Response),
-}
-
-// The decision by a ruling.
-fn by_ruling(ruling: Ruling) -> Decision
-    ensures { λ r. ⌜ judgedBy r ≡ judgedAs (rulingAnswer ruling) ⌝ }
+// The response to a ruling.
+fn by_ruling(ruling: Ruling) -> Response
+    ensures { λ r. ⌜ responseAnswer r ≡ decidedAs (rulingAnswer ruling) ⌝ }
 {
     match ruling {
-        Ruling::Unfit => Decision::Refused(Response::OutOfRange),
-        Ruling::BadPairs => Decision::Refused(Response::BadPairs),
-        Ruling::UnknownFolder => Decision::Refused(Response::UnknownFolder),
-        Ruling::Granted => Decision::Granted,
-        Ruling::Rival(f) => Decision::Barred(WallRefusal::Rival(f)),
-        Ruling::Foreign(f) => Decision::Barred(WallRefusal::Foreign(f)),
-        Ruling::AtStake(f) => Decision::Barred(WallRefusal::AtStake(f)),
+        Ruling::Unfit => Response::OutOfRange,
+        Ruling::BadPairs => Response::BadPairs,
+        Ruling::UnknownFolder => Response::UnknownFolder,
+        Ruling::Granted => Response::Granted(0),
+        Ruling::Rival(f) => Response::Rival(f),
+        Ruling::Foreign(f) => Response::Foreign(f),
+        Ruling::AtStake(f) => Response::AtStake(f),
     }
 }
 
-// The decision on a request; `size` is the length of the log's buffer. No row has over 512 folders: one that has is not looked at.
+// The decision on a request; `size` is the length of the log's buffer. No row has over 512 folders: one that has is not looked at. It is a response, of
+// six bytes: an enum of its own around responses and refusals, of eight, is copied packed into one word, which costs more than the decision.
 pub fn decide_row(
     matrix: &[u8],
     start: usize,
@@ -51,19 +42,19 @@ pub fn decide_row(
     asked: Request,
     size: usize,
     tail: Tail,
-) -> Decision
-    ensures { λ r. ⌜ judgedBy r ≡ judgedAs (ruled (servedAnswer (lentFoldersBy classes clients «by_pairs» firsts seconds) (lentRow matrix start classes) (requestOf asked) size (tail .end))) ⌝ }
+) -> Response
+    ensures { λ r. ⌜ responseAnswer r ≡ decidedAs (servedAnswer (lentFoldersBy classes clients «by_pairs» firsts seconds) (lentRow matrix start classes) (requestOf asked) size (tail .end)) ⌝ }
 {
     let length = cells::row_length(matrix, start, classes.len());
     if 512 < length {
-        return Decision::Refused(Response::OutOfRange);
+        return Response::OutOfRange;
     }
     let large = cells::first_above_in(matrix, start, classes.len());
     if large < length {
-        return Decision::Refused(Response::BadCell(FolderNo(large as u16)));
+        return Response::BadCell(FolderNo(large as u16));
     }
     if size < tail.end {
-        return Decision::Refused(Response::BadEnd);
+        return Response::BadEnd;
     }
     if by_pairs {
         return by_ruling(row::decide_by_pairs(

@@ -4,7 +4,8 @@
 use ids::Request;
 use log_writer::Reply;
 use log_writer::Tail;
-use row_decision::Decision;
+use log_writer::WallRefusal;
+use response::Response;
 ghost use mathlib.Core.Path.{_≡_};
 ghost use Rattle.register.specs.Lent.{lentFoldersBy};
 ghost use Rattle.log_writer.specs.Reply.{requestOf, lentLog, replied};
@@ -27,7 +28,7 @@ pub fn serve(
 ) -> Reply
     ensures { λ r. ⌜ replied r (now (matrix .exit)) (now (log .exit)) ≡ servedAt (lentFoldersBy classes clients «by_pairs» firsts seconds) (now (matrix .entry)) start (requestOf asked) (lentLog log tail) ⌝ }
 {
-    let decision = row_decision::decide_row(
+    let decided = row_decision::decide_row(
         matrix,
         start,
         classes,
@@ -39,11 +40,13 @@ pub fn serve(
         log.len(),
         tail,
     );
-    match decision {
-        Decision::Granted => grant::grant(matrix, start, classes, clients, asked, log, tail),
-        Decision::Barred(refusal) => log_writer::log_refusal(log, tail, asked, refusal),
-        Decision::Refused(response) => Reply {
-            response: response,
+    match decided {
+        Response::Granted(_) => grant::grant(matrix, start, classes, clients, asked, log, tail),
+        Response::Rival(f) => log_writer::log_refusal(log, tail, asked, WallRefusal::Rival(f)),
+        Response::Foreign(f) => log_writer::log_refusal(log, tail, asked, WallRefusal::Foreign(f)),
+        Response::AtStake(f) => log_writer::log_refusal(log, tail, asked, WallRefusal::AtStake(f)),
+        _ => Reply {
+            response: decided,
             tail: tail,
         },
     }

@@ -1,9 +1,7 @@
--- `by_ruling` meets its contract: each ruling has its decision.
+-- `by_ruling` meets its contract: each ruling has its response.
 use borrow.Author.Needs.{needs}
 use Rattle.row_decision.proofs.by_ruling.Statement.{statement}
 use Rattle.row_decision.proofs.by_ruling.Tie as tie
-use Rattle.row_decision.proofs.by_ruling.Reads as reads
-use Rattle.row_decision.proofs.by_ruling.Lts as lts
 
 enum-told : tie.Need-enum-told
 enum-told c = search needs

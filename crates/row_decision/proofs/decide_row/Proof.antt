@@ -1,5 +1,6 @@
 -- `decide_row` meets its contract: the row's length and rows 8 and 9 of the table speak before the row's crate, in either mode.
 use Rattle.row_decision.proofs.Rows.{judged-long, judged-large, judged-end, judged-row}
+use Rattle.row.specs.Row.{rulingAnswer}
 use mathlib.Core.Bool.{true, false}
 use mathlib.Core.Path.{_≡_, _∙_}
 use borrow.Author.Needs.{needs}
@@ -16,8 +17,8 @@ returns c =
 first-above-in-requires : tie.Need-first-above-in-requires
 first-above-in-requires c κs = search needs
 
-cast-t16 : tie.Need-cast-t16
-cast-t16 c = search needs
+cast-t15 : tie.Need-cast-t15
+cast-t15 c = search needs
 
 returns-2 : tie.Need-returns-2
 returns-2 c =
@@ -39,7 +40,7 @@ returns-4 : tie.Need-returns-4
 returns-4 c =
     let n = c .before .before .before .before .before .before .before .before .row-length .ensures in
     let mode : c .before .before .before .before .before .before .before .before .before .before .before .before .before .before .args .by-pairs ≡ true = c .before .before .if4 .taken in
-    c .by-ruling .ensures ∙ judged-row _ _ _ _ _ (rw n at (c .before .before .before .before .before .before .before .if1 .left)) (c .before .before .before .before .before .before .first-above-in .ensures) (rw n at (c .before .before .before .before .before .if2 .left)) (c .before .before .before .if3 .left) (rw mode (c .before .decide-by-pairs .ensures))
+    c .by-ruling .ensures ∙ judged-row _ _ _ _ _ (rw n at (c .before .before .before .before .before .before .before .if1 .left)) (c .before .before .before .before .before .before .first-above-in .ensures) (rw n at (c .before .before .before .before .before .if2 .left)) (c .before .before .before .if3 .left) {a = rulingAnswer (c .before .decide-by-pairs .result)} (rw mode (c .before .decide-by-pairs .ensures))
 
 decide-by-classes-requires : tie.Need-decide-by-classes-requires
 decide-by-classes-requires c κs = search needs
@@ -51,7 +52,7 @@ returns-5 : tie.Need-returns-5
 returns-5 c =
     let n = c .before .before .before .before .before .before .before .before .row-length .ensures in
     let mode : c .before .before .before .before .before .before .before .before .before .before .before .before .before .before .args .by-pairs ≡ false = c .before .before .if4 .left in
-    c .by-ruling2 .ensures ∙ judged-row _ _ _ _ _ (rw n at (c .before .before .before .before .before .before .before .if1 .left)) (c .before .before .before .before .before .before .first-above-in .ensures) (rw n at (c .before .before .before .before .before .if2 .left)) (c .before .before .before .if3 .left) (rw mode (c .before .decide-by-classes .ensures _ _))
+    c .by-ruling2 .ensures ∙ judged-row _ _ _ _ _ (rw n at (c .before .before .before .before .before .before .before .if1 .left)) (c .before .before .before .before .before .before .first-above-in .ensures) (rw n at (c .before .before .before .before .before .if2 .left)) (c .before .before .before .if3 .left) {a = rulingAnswer (c .before .decide-by-classes .result)} (rw mode (c .before .decide-by-classes .ensures _ _))
 
 pub decide-row-spec : {M : Type 1} → statement M
 decide-row-spec =
@@ -60,7 +61,7 @@ decide-row-spec =
     row-length-requires
     returns
     first-above-in-requires
-    cast-t16
+    cast-t15
     returns-2
     returns-3
     decide-by-pairs-requires
