@@ -128,7 +128,7 @@ module _ (r : Register) (row : List ℕ) (beside : Alongside row (r .classes) (r
     unfolding wallAnswer wallChecks judge foreigners
     says-foreign w is h = let p = found Foreign is h in rw (no-rival passed past, same, w, p .0, p .1)
 
-    grants-write : writes kind ≡ true → {m : ℕ} → Finds Foreign m → length row ≤ m → answer 0 [] ≡ ruled (wallAnswer r row o kind)
+    grants-write : writes kind ≡ true → {m : ℕ} → Finds Foreign m → length row ≤ m → answer 0 (0 ∷ []) ≡ ruled (wallAnswer r row o kind)
     unfolding wallAnswer wallChecks judge foreigners
     grants-write w is h = rw (no-rival passed past, same, w, none Foreign is h, writes-other kind w)
 
@@ -136,11 +136,11 @@ module _ (r : Register) (row : List ℕ) (beside : Alongside row (r .classes) (r
     unfolding wallAnswer wallChecks judge stakes
     says-stake w e is h = let p = found AtStake is h in rw (no-rival passed past, same, w, eq-eqb kind 2 e, p .0, p .1)
 
-    grants-careful : writes kind ≡ false → kind ≡ 2 → {m : ℕ} → Finds AtStake m → length row ≤ m → answer 0 [] ≡ ruled (wallAnswer r row o kind)
+    grants-careful : writes kind ≡ false → kind ≡ 2 → {m : ℕ} → Finds AtStake m → length row ≤ m → answer 0 (0 ∷ []) ≡ ruled (wallAnswer r row o kind)
     unfolding wallAnswer wallChecks judge stakes
     grants-careful w e is h = rw (no-rival passed past, same, w, eq-eqb kind 2 e, none AtStake is h)
 
-    grants-read : writes kind ≡ false → (kind ≡ 2 → ⊥) → answer 0 [] ≡ ruled (wallAnswer r row o kind)
+    grants-read : writes kind ≡ false → (kind ≡ 2 → ⊥) → answer 0 (0 ∷ []) ≡ ruled (wallAnswer r row o kind)
     unfolding wallAnswer wallChecks judge
     grants-read w e = rw (no-rival passed past, w, ne-eqb kind 2 e)
 

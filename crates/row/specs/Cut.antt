@@ -34,4 +34,4 @@ ruledPast rival row classes clients o kind =
     judge (check (within row rival) 20 (rival ∷ [])
     ∷ check (writes kind && within row (firstOf Foreign row classes clients o)) 21 (firstOf Foreign row classes clients o ∷ [])
     ∷ check (eqb kind 2 && within row (firstOf AtStake row classes clients o)) 22 (firstOf AtStake row classes clients o ∷ [])
-    ∷ []) (answer 0 [])
+    ∷ []) (answer 0 (0 ∷ []))

@@ -13,8 +13,6 @@ use Rattle.policy.specs.Rules.{lost}
 use Rattle.policy.specs.Outcome.{wallAnswer}
 use Rattle.row_labels.specs.Fitting.{listsFit, fitting}
 use Rattle.register_pairs.specs.Pair.{pairsFit}
-use Rattle.row.specs.declared.Ruling.{Ruling}
-use Rattle.row.specs.declared.Ruling.the-variants.{Unfit, BadPairs, UnknownFolder, Granted, Rival, Foreign, AtStake}
 
 -- The rows of the table that judge the lists and the folder.
 unfoldable pub fitChecks : Register → List ℕ → ℕ → List Check
@@ -28,19 +26,9 @@ fitChecks r row o =
 unfoldable pub rowAnswer : Register → List ℕ → ℕ → ℕ → Answer
 rowAnswer r row o kind = judge (fitChecks r row o) (wallAnswer r row o kind)
 
--- A ruling, by document 01's numbers, with document 02's 11; of a grant the number alone.
-abbrev pub rulingAnswer : Ruling → Answer
-rulingAnswer Unfit = answer 1 []
-rulingAnswer BadPairs = answer 11 []
-rulingAnswer UnknownFolder = answer 6 []
-rulingAnswer Granted = answer 0 []
-rulingAnswer (Rival f) = answer 20 (f .0 ∷ [])
-rulingAnswer (Foreign f) = answer 21 (f .0 ∷ [])
-rulingAnswer (AtStake f) = answer 22 (f .0 ∷ [])
-
--- An answer without what a grant carries, the folders that lose a write right.
+-- An answer as it is handed on before it is carried out: of a grant nothing is told as taken back yet.
 abbrev pub ruled : Answer → Answer
-ruled a = cond (eqb (a .number) 0) (answer 0 []) a
+ruled a = cond (eqb (a .number) 0) (answer 0 (0 ∷ [])) a
 
 -- The folders that lose their write right on a grant; none where lists or folder do not fit the row.
 unfoldable pub lostOn : Register → List ℕ → ℕ → ℕ → List ℕ

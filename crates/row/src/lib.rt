@@ -5,6 +5,7 @@
 use cell_rules::Sort;
 use ids::FolderNo;
 use ids::Label;
+use response::Response;
 ghost use Prim.Native.Nat.{ℕ, _≤_};
 ghost use mathlib.Core.Path.{_≡_};
 ghost use mathlib.Core.Bool.{true, false};
@@ -18,38 +19,21 @@ ghost use Rattle.policy.specs.Rules.{writes};
 ghost use Rattle.row_labels.specs.Cut.{Alongside};
 ghost use Rattle.row_marks.specs.Opposed.{firstOpposer};
 ghost use Rattle.row.specs.Cut.{ruledPast};
-ghost use Rattle.row.specs.Row.{rowAnswer, rulingAnswer, ruled, lostOn};
+ghost use Rattle.response.specs.Response.{responseAnswer};
+ghost use Rattle.row.specs.Row.{rowAnswer, ruled, lostOn};
 
 mod walks; // the searches through a row
 
-// The answer to a request, on the row of the person of the login that asks.
-pub enum Ruling {
-    // 1: the lists are not of the row's length, or it has over 512 folders
-    Unfit,
-    // 11: in pair mode, the lists of pairs are of unequal length or have over 256 pairs
-    BadPairs,
-    // 6: the folder is not in the row
-    UnknownFolder,
-    // 0
-    Granted,
-    // 20: a rival exists
-    Rival(FolderNo),
-    // 21: a foreign folder exists
-    Foreign(FolderNo),
-    // 22: a folder is at stake
-    AtStake(FolderNo),
-}
-
 // Row 21 of the table, for a kind that enters a write right, where there is no rival.
-fn rule_write(matrix: &[u8], start: usize, classes: &[u16], clients: &[u16], o: Label) -> Ruling
+fn rule_write(matrix: &[u8], start: usize, classes: &[u16], clients: &[u16], o: Label) -> Response
     requires { ⌜ Alongside (rowIn matrix start classes) (now classes) (now clients) × (length (now classes) ≤ 512) ⌝ }
-    ensures { λ r. ⌜ ((kind : ℕ) → writes kind ≡ true → rulingAnswer r ≡ ruledPast (length (now (classes .entry))) (lentRow matrix start classes) (now (classes .entry)) (now (clients .entry)) o kind) ⌝ }
+    ensures { λ r. ⌜ ((kind : ℕ) → writes kind ≡ true → responseAnswer r ≡ ruledPast (length (now (classes .entry))) (lentRow matrix start classes) (now (classes .entry)) (now (clients .entry)) o kind) ⌝ }
 {
     let foreign = walks::find(Sort::Foreign, matrix, start, classes, clients, o);
     if foreign < classes.len() {
-        return Ruling::Foreign(walks::folder_no(foreign));
+        return Response::Foreign(walks::folder_no(foreign));
     }
-    Ruling::Granted
+    Response::Granted(0)
 }
 
 // Row 22 of the table, for a kind that enters no write right, where there is no rival.
@@ -60,17 +44,17 @@ fn rule_read(
     clients: &[u16],
     o: Label,
     kind: u16,
-) -> Ruling
+) -> Response
     requires { ⌜ Alongside (rowIn matrix start classes) (now classes) (now clients) × (length (now classes) ≤ 512) × (writes kind ≡ false) ⌝ }
-    ensures { λ r. ⌜ rulingAnswer r ≡ ruledPast (length (now (classes .entry))) (lentRow matrix start classes) (now (classes .entry)) (now (clients .entry)) o kind ⌝ }
+    ensures { λ r. ⌜ responseAnswer r ≡ ruledPast (length (now (classes .entry))) (lentRow matrix start classes) (now (classes .entry)) (now (clients .entry)) o kind ⌝ }
 {
     if kind == 2 {
         let stake = walks::find(Sort::AtStake, matrix, start, classes, clients, o);
         if stake < classes.len() {
-            return Ruling::AtStake(walks::folder_no(stake));
+            return Response::AtStake(walks::folder_no(stake));
         }
     }
-    Ruling::Granted
+    Response::Granted(0)
 }
 
 // What the person whose row this is gets for a request of this folder and kind, by classes; whatever pairs came with the register are not looked at.
@@ -81,19 +65,19 @@ pub fn decide_by_classes(
     clients: &[u16],
     folder: FolderNo,
     kind: u16,
-) -> Ruling
-    ensures { λ r. ⌜ ((firsts seconds : List ℕ) → rulingAnswer r ≡ ruled (rowAnswer (registerBy 0 (now (classes .entry)) (now (clients .entry)) false firsts seconds) (lentRow matrix start classes) (folder .0) kind)) ⌝ }
+) -> Response
+    ensures { λ r. ⌜ ((firsts seconds : List ℕ) → responseAnswer r ≡ ruled (rowAnswer (registerBy 0 (now (classes .entry)) (now (clients .entry)) false firsts seconds) (lentRow matrix start classes) (folder .0) kind)) ⌝ }
 {
     if !row_labels::lists_fit(matrix, start, classes, clients) {
-        return Ruling::Unfit;
+        return Response::OutOfRange;
     }
     if classes.len() <= folder.0 as usize {
-        return Ruling::UnknownFolder;
+        return Response::UnknownFolder;
     }
     let o = row_labels::label_of(classes, clients, folder);
     let rival = walks::find(Sort::Rival, matrix, start, classes, clients, o);
     if rival < classes.len() {
-        return Ruling::Rival(walks::folder_no(rival));
+        return Response::Rival(walks::folder_no(rival));
     }
     if kinds::writes(kind) {
         return rule_write(matrix, start, classes, clients, o);
@@ -111,14 +95,14 @@ fn write_by_pairs(
     firsts: &[u16],
     seconds: &[u16],
     o: Label,
-) -> Ruling
+) -> Response
     requires { ⌜ Alongside (rowIn matrix start classes) (now classes) (now clients) × (length (now classes) ≤ 512) ⌝ }
-    ensures { λ r. ⌜ ((kind : ℕ) → writes kind ≡ true → rulingAnswer r ≡ ruledPast (firstOpposer (lentClients clients firsts seconds) (lentRow matrix start classes) (o .client .0)) (lentRow matrix start classes) (now (classes .entry)) (now (clients .entry)) o kind) ⌝ }
+    ensures { λ r. ⌜ ((kind : ℕ) → writes kind ≡ true → responseAnswer r ≡ ruledPast (firstOpposer (lentClients clients firsts seconds) (lentRow matrix start classes) (o .client .0)) (lentRow matrix start classes) (now (classes .entry)) (now (clients .entry)) o kind) ⌝ }
 {
     let client = o.client;
     let opposer = row_pairs::first_opposer(matrix, start, clients, firsts, seconds, client);
     if opposer < classes.len() {
-        return Ruling::Rival(walks::folder_no(opposer));
+        return Response::Rival(walks::folder_no(opposer));
     }
     rule_write(matrix, start, classes, clients, o)
 }
@@ -132,14 +116,14 @@ fn read_by_pairs(
     seconds: &[u16],
     o: Label,
     kind: u16,
-) -> Ruling
+) -> Response
     requires { ⌜ Alongside (rowIn matrix start classes) (now classes) (now clients) × (length (now classes) ≤ 512) × (writes kind ≡ false) ⌝ }
-    ensures { λ r. ⌜ rulingAnswer r ≡ ruledPast (firstOpposer (lentClients clients firsts seconds) (lentRow matrix start classes) (o .client .0)) (lentRow matrix start classes) (now (classes .entry)) (now (clients .entry)) o kind ⌝ }
+    ensures { λ r. ⌜ responseAnswer r ≡ ruledPast (firstOpposer (lentClients clients firsts seconds) (lentRow matrix start classes) (o .client .0)) (lentRow matrix start classes) (now (classes .entry)) (now (clients .entry)) o kind ⌝ }
 {
     let client = o.client;
     let opposer = row_pairs::first_opposer(matrix, start, clients, firsts, seconds, client);
     if opposer < classes.len() {
-        return Ruling::Rival(walks::folder_no(opposer));
+        return Response::Rival(walks::folder_no(opposer));
     }
     rule_read(matrix, start, classes, clients, o, kind)
 }
@@ -154,18 +138,18 @@ pub fn decide_by_pairs(
     seconds: &[u16],
     folder: FolderNo,
     kind: u16,
-) -> Ruling
-    ensures { λ r. ⌜ rulingAnswer r ≡ ruled (rowAnswer (lentFoldersBy classes clients true firsts seconds) (lentRow matrix start classes) (folder .0) kind) ⌝ }
+) -> Response
+    ensures { λ r. ⌜ responseAnswer r ≡ ruled (rowAnswer (lentFoldersBy classes clients true firsts seconds) (lentRow matrix start classes) (folder .0) kind) ⌝ }
 {
     if !row_labels::lists_fit(matrix, start, classes, clients) {
-        return Ruling::Unfit;
+        return Response::OutOfRange;
     }
     if !register_pairs::pairs_fit(firsts, seconds) {
-        return Ruling::BadPairs;
+        return Response::BadPairs;
     }
     let folders = classes.len();
     if folders <= folder.0 as usize {
-        return Ruling::UnknownFolder;
+        return Response::UnknownFolder;
     }
     let o = row_labels::label_of(classes, clients, folder);
     if kinds::writes(kind) {

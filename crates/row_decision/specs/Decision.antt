@@ -2,9 +2,8 @@
 -- A row of over 512 folders gets 1 before its cells are looked at; lists of another length get 1, pairs that do not fit 11 (document 02, C-12), and a
 -- folder that is not in the row 6, only after rows 8 and 9, as `row` says. Row 7 is not judged here: a kind other than 1 to 4 asks for nothing.
 use Prim.Native.Nat.{ℕ}
-use mathlib.Core.Bool.{cond}
 use mathlib.Core.List.{List, [], _∷_}
-use lib.Dec.{eqb, ltb}
+use lib.Dec.{ltb}
 use lib.ListN.{length}
 use Rattle.vocabulary.specs.Answer.{Answer, Check, answer, check, judge}
 use Rattle.vocabulary.specs.Those.{some, smallest}
@@ -24,7 +23,3 @@ rowChecks row size end =
 -- The decision on a row: what rows 1, 11 and 6, as far as they concern the row, and rows 8, 9 and 20 to 22 say; 30 is judged with the record.
 unfoldable pub servedAnswer : Register → List ℕ → Request → (size end : ℕ) → Answer
 servedAnswer r row q size end = judge (rowChecks row size end) (rowAnswer r row (q .folder) (q .kind))
-
--- A decision as it is handed on: a grant is not carried out yet, so nothing is told as taken back.
-abbrev pub decidedAs : Answer → Answer
-decidedAs a = cond (eqb (a .number) 0) (answer 0 (0 ∷ [])) a

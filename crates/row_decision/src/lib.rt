@@ -5,32 +5,15 @@ use ids::FolderNo;
 use ids::Request;
 use log_writer::Tail;
 use response::Response;
-use row::Ruling;
 ghost use mathlib.Core.Path.{_≡_};
 ghost use Rattle.vocabulary.specs.Place.{lentRow};
 ghost use Rattle.register.specs.Lent.{lentFoldersBy};
 ghost use Rattle.response.specs.Response.{responseAnswer};
-ghost use Rattle.row.specs.Row.{rulingAnswer};
+ghost use Rattle.row.specs.Row.{ruled};
 ghost use Rattle.log_writer.specs.Reply.{requestOf};
-ghost use Rattle.row_decision.specs.Decision.{decidedAs, servedAnswer};
+ghost use Rattle.row_decision.specs.Decision.{servedAnswer};
 
-// The response to a ruling.
-fn by_ruling(ruling: Ruling) -> Response
-    ensures { λ r. ⌜ responseAnswer r ≡ decidedAs (rulingAnswer ruling) ⌝ }
-{
-    match ruling {
-        Ruling::Unfit => Response::OutOfRange,
-        Ruling::BadPairs => Response::BadPairs,
-        Ruling::UnknownFolder => Response::UnknownFolder,
-        Ruling::Granted => Response::Granted(0),
-        Ruling::Rival(f) => Response::Rival(f),
-        Ruling::Foreign(f) => Response::Foreign(f),
-        Ruling::AtStake(f) => Response::AtStake(f),
-    }
-}
-
-// The decision on a request; `size` is the length of the log's buffer. No row has over 512 folders: one that has is not looked at. It is a response, of
-// six bytes: an enum of its own around responses and refusals, of eight, is copied packed into one word, which costs more than the decision.
+// The decision on a request; `size` is the length of the log's buffer. No row has over 512 folders: one that has is not looked at.
 pub fn decide_row(
     matrix: &[u8],
     start: usize,
@@ -43,7 +26,7 @@ pub fn decide_row(
     size: usize,
     tail: Tail,
 ) -> Response
-    ensures { λ r. ⌜ responseAnswer r ≡ decidedAs (servedAnswer (lentFoldersBy classes clients «by_pairs» firsts seconds) (lentRow matrix start classes) (requestOf asked) size (tail .end)) ⌝ }
+    ensures { λ r. ⌜ responseAnswer r ≡ ruled (servedAnswer (lentFoldersBy classes clients «by_pairs» firsts seconds) (lentRow matrix start classes) (requestOf asked) size (tail .end)) ⌝ }
 {
     let length = cells::row_length(matrix, start, classes.len());
     if 512 < length {
@@ -57,7 +40,7 @@ pub fn decide_row(
         return Response::BadEnd;
     }
     if by_pairs {
-        return by_ruling(row::decide_by_pairs(
+        return row::decide_by_pairs(
             matrix,
             start,
             classes,
@@ -66,7 +49,7 @@ pub fn decide_row(
             seconds,
             asked.folder,
             asked.kind,
-        ));
+        );
     }
-    by_ruling(row::decide_by_classes(matrix, start, classes, clients, asked.folder, asked.kind))
+    row::decide_by_classes(matrix, start, classes, clients, asked.folder, asked.kind)
 }

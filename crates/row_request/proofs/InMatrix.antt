@@ -14,9 +14,10 @@ use Rattle.policy.specs.Outcome.{Request, Log, Outcome, isLogged, recordOf, unc
 use Rattle.response.specs.declared.Response.{Response}
 use Rattle.response.specs.declared.Response.the-variants.{Granted}
 use Rattle.response.specs.Response.{responseAnswer}
+use Rattle.row.specs.Row.{ruled}
 use Rattle.log_writer.specs.declared.WallRefusal.{WallRefusal}
 use Rattle.log_writer.specs.Logged.{refusalAnswer, loggedOutcome}
-use Rattle.row_decision.specs.Decision.{decidedAs, servedAnswer}
+use Rattle.row_decision.specs.Decision.{servedAnswer}
 use Rattle.row_request.specs.Served.{servedAt}
 use Rattle.row_request.proofs.Served.{served-granted, served-barred, served-refused}
 use Rattle.row_request.specs.Cut.{grantLeaves, grantOn, grantedOutcome, grantedAt}
@@ -55,19 +56,19 @@ module _ (r : Register) (matrix : List ℕ) (start : ℕ) (q : Request) (log : L
   abbrev decided : Answer
   decided = servedAnswer r (rowAt matrix start (folders r)) q (length (log .bytes)) (log .end)
 
-  pub granted-at : (n : ℕ) → responseAnswer (Granted n) ≡ decidedAs decided → grantedAt (registerOf 0 (r .classes) (r .clients)) matrix start q log ≡ servedAt r matrix start q log
+  pub granted-at : (n : ℕ) → responseAnswer (Granted n) ≡ ruled decided → grantedAt (registerOf 0 (r .classes) (r .clients)) matrix start q log ≡ servedAt r matrix start q log
   unfolding servedAt grantLeaves grantedOutcome
   granted-at n d =
       logged-in matrix start (folders r) q log (grantOn (registerOf 0 (r .classes) (r .clients)) (rowAt matrix start (folders r)) q) _
       ∙ ap (inMatrix matrix start (folders r)) (served-granted r (rowAt matrix start (folders r)) q log n d)
 
-  pub barred-at : (w : WallRefusal) → refusalAnswer w ≡ decidedAs decided → loggedOutcome matrix q log (refusalAnswer w) ≡ servedAt r matrix start q log
+  pub barred-at : (w : WallRefusal) → refusalAnswer w ≡ ruled decided → loggedOutcome matrix q log (refusalAnswer w) ≡ servedAt r matrix start q log
   unfolding servedAt
   barred-at w d =
       refusal-in matrix start (folders r) q log (refusalAnswer w)
       ∙ ap (inMatrix matrix start (folders r)) (served-barred r (rowAt matrix start (folders r)) q log w d)
 
-  pub refused-at : (p : Response) → isLogged (responseAnswer p) ≡ false → responseAnswer p ≡ decidedAs decided → unchanged (responseAnswer p) matrix log ≡ servedAt r matrix start q log
+  pub refused-at : (p : Response) → isLogged (responseAnswer p) ≡ false → responseAnswer p ≡ ruled decided → unchanged (responseAnswer p) matrix log ≡ servedAt r matrix start q log
   unfolding servedAt
   refused-at p u d =
       unchanged-in matrix start (folders r) (responseAnswer p) log

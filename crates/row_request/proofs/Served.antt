@@ -6,7 +6,7 @@ use mathlib.Core.Bool.{true, false}
 use mathlib.Core.List.{List, []}
 use lib.ListN.{length}
 use lib.Dec.{eqb, ltb}
-use borrow.Author.Tests.{eqb-true, leb-false, lt-ltb, not-false}
+use borrow.Author.Tests.{leb-false, lt-ltb, not-false}
 use Rattle.vocabulary.specs.Answer.{Answer, answer}
 use Rattle.vocabulary.proofs.Bools.{true-or-false, not-both, neither}
 use Rattle.vocabulary.proofs.Judge.{judge-silent}
@@ -19,26 +19,19 @@ use Rattle.response.specs.Response.{responseAnswer}
 use Rattle.policy.specs.Rules.{lost, rowAfter}
 use Rattle.policy.specs.Outcome.{Request, Log, wallChecks, wallAnswer, byWall, isLogged, unchanged}
 use Rattle.row_labels.specs.Fitting.{listsFit, fitting}
-use Rattle.row.specs.Row.{fitChecks, rowAnswer, lostOn}
+use Rattle.row.specs.Row.{fitChecks, rowAnswer, ruled, lostOn}
+use Rattle.row.proofs.Fitting.{ruled-number}
 use Rattle.row_grant.specs.Granted.{rowGranted}
 use Rattle.log_writer.specs.declared.WallRefusal.{WallRefusal}
 use Rattle.log_writer.specs.declared.WallRefusal.the-variants.{Rival, Foreign, AtStake}
 use Rattle.log_writer.specs.Logged.{refusalAnswer, loggedOutcome}
-use Rattle.row_decision.specs.Decision.{decidedAs, rowChecks, servedAnswer}
+use Rattle.row_decision.specs.Decision.{rowChecks, servedAnswer}
 use Rattle.row_request.specs.Served.{servedOutcome}
 use Rattle.row_request.specs.Cut.{grantedOutcome}
 
--- A decision has its answer's number.
-decided-number : (a : Answer) → decidedAs a .number ≡ a .number
-decided-number a = by (true-or-false (eqb (a .number) 0))
-  where
-    by : (eqb (a .number) 0 ≡ true) ⊎ (eqb (a .number) 0 ≡ false) → decidedAs a .number ≡ a .number
-    by (inl e) = rw e (sym (eqb-true (a .number) 0 e))
-    by (inr e) = rw e
-
 -- A decision that is no grant is the whole answer.
-decided-other : (b a : Answer) → eqb (b .number) 0 ≡ false → b ≡ decidedAs a → a ≡ b
-decided-other b a n e = by (true-or-false (eqb (a .number) 0))
+ruled-other : (b a : Answer) → eqb (b .number) 0 ≡ false → b ≡ ruled a → a ≡ b
+ruled-other b a n e = by (true-or-false (eqb (a .number) 0))
   where
     by : (eqb (a .number) 0 ≡ true) ⊎ (eqb (a .number) 0 ≡ false) → a ≡ b
     by (inl g) = not-both (rw (e, g)) n
@@ -65,10 +58,10 @@ module _ (r : Register) (row : List ℕ) (q : Request) (log : Log) where
       e ∙ row-granted r row (q .folder) (q .kind) (rw e at n)
 
   -- A grant is decided on a row that it fits, with cells of 0 to 3.
-  pub granted-sound : (n : ℕ) → responseAnswer (Granted n) ≡ decidedAs said → (fitting (registerOf 0 (r .classes) (r .clients)) row (q .folder) ≡ true) × (aboves row ≡ [])
+  pub granted-sound : (n : ℕ) → responseAnswer (Granted n) ≡ ruled said → (fitting (registerOf 0 (r .classes) (r .clients)) row (q .folder) ≡ true) × (aboves row ≡ [])
   unfolding servedAnswer rowChecks rowAnswer fitChecks fitting listsFit
   granted-sound count d =
-      let n = sym (ap (λ (a : Answer). a .number) d ∙ decided-number said) in
+      let n = sym (ap (λ (a : Answer). a .number) d ∙ ruled-number said) in
       let a = judge-silent (rowChecks row (length (log .bytes)) (log .end)) (rowAnswer r row (q .folder) (q .kind)) 0 refl n in
       let b = judge-silent (fitChecks r row (q .folder)) (wallAnswer r row (q .folder) (q .kind)) 0 refl (rw (a .1) at n) in
       let f : listsFit r row ≡ true = not-false (listsFit r row) (b .0 .0) in
@@ -76,20 +69,20 @@ module _ (r : Register) (row : List ℕ) (q : Request) (log : Log) where
       (rw (f, k), some-none (aboves row) (a .0 .1 .0))
 
   -- The carrying out of a grant looks at no conflict.
-  pub served-granted : (n : ℕ) → responseAnswer (Granted n) ≡ decidedAs said → grantedOutcome (registerOf 0 (r .classes) (r .clients)) row q log ≡ servedOutcome r row q log
+  pub served-granted : (n : ℕ) → responseAnswer (Granted n) ≡ ruled said → grantedOutcome (registerOf 0 (r .classes) (r .clients)) row q log ≡ servedOutcome r row q log
   unfolding servedOutcome grantedOutcome lostOn lost rowGranted rowAfter fitting listsFit
-  served-granted n d = rw (said-granted (sym (ap (λ (a : Answer). a .number) d ∙ decided-number said)))
+  served-granted n d = rw (said-granted (sym (ap (λ (a : Answer). a .number) d ∙ ruled-number said)))
 
-  pub served-barred : (w : WallRefusal) → refusalAnswer w ≡ decidedAs said →
+  pub served-barred : (w : WallRefusal) → refusalAnswer w ≡ ruled said →
       loggedOutcome row q log (refusalAnswer w) ≡ servedOutcome r row q log
   unfolding servedOutcome loggedOutcome
-  served-barred (Rival f) d = rw (decided-other (refusalAnswer (Rival f)) said refl d)
-  served-barred (Foreign f) d = rw (decided-other (refusalAnswer (Foreign f)) said refl d)
-  served-barred (AtStake f) d = rw (decided-other (refusalAnswer (AtStake f)) said refl d)
+  served-barred (Rival f) d = rw (ruled-other (refusalAnswer (Rival f)) said refl d)
+  served-barred (Foreign f) d = rw (ruled-other (refusalAnswer (Foreign f)) said refl d)
+  served-barred (AtStake f) d = rw (ruled-other (refusalAnswer (AtStake f)) said refl d)
 
-  pub served-refused : (p : Response) → isLogged (responseAnswer p) ≡ false → responseAnswer p ≡ decidedAs said →
+  pub served-refused : (p : Response) → isLogged (responseAnswer p) ≡ false → responseAnswer p ≡ ruled said →
       unchanged (responseAnswer p) row log ≡ servedOutcome r row q log
   unfolding servedOutcome
   served-refused p u d =
       let n : eqb (responseAnswer p .number) 0 ≡ false = neither (eqb (responseAnswer p .number) 0) (byWall (responseAnswer p)) u .0 in
-      rw (decided-other (responseAnswer p) said n d, u, n)
+      rw (ruled-other (responseAnswer p) said n d, u, n)

@@ -1,8 +1,7 @@
 -- `decide_row` meets its contract: the row's length and rows 8 and 9 of the table speak before the row's crate, in either mode.
-use Rattle.row_decision.proofs.Rows.{judged-long, judged-large, judged-end, judged-row}
-use Rattle.row.specs.Row.{rulingAnswer}
+use mathlib.Core.Path.{_≡_}
 use mathlib.Core.Bool.{true, false}
-use mathlib.Core.Path.{_≡_, _∙_}
+use Rattle.row_decision.proofs.Rows.{judged-long, judged-large, judged-end, judged-row}
 use borrow.Author.Needs.{needs}
 use Rattle.row_decision.proofs.decide_row.Statement.{statement}
 use Rattle.row_decision.proofs.decide_row.Tie as tie
@@ -33,26 +32,20 @@ returns-3 c =
 decide-by-pairs-requires : tie.Need-decide-by-pairs-requires
 decide-by-pairs-requires c κs = search needs
 
-by-ruling-requires : tie.Need-by-ruling-requires
-by-ruling-requires c κs = search needs
-
 returns-4 : tie.Need-returns-4
 returns-4 c =
-    let n = c .before .before .before .before .before .before .before .before .row-length .ensures in
-    let mode : c .before .before .before .before .before .before .before .before .before .before .before .before .before .before .args .by-pairs ≡ true = c .before .before .if4 .taken in
-    c .by-ruling .ensures ∙ judged-row _ _ _ _ _ (rw n at (c .before .before .before .before .before .before .before .if1 .left)) (c .before .before .before .before .before .before .first-above-in .ensures) (rw n at (c .before .before .before .before .before .if2 .left)) (c .before .before .before .if3 .left) {a = rulingAnswer (c .before .decide-by-pairs .result)} (rw mode (c .before .decide-by-pairs .ensures))
+    let n = c .before .before .before .before .before .before .before .row-length .ensures in
+    let mode : c .before .before .before .before .before .before .before .before .before .before .before .before .before .args .by-pairs ≡ true = c .before .if4 .taken in
+    judged-row _ _ _ _ _ (rw n at (c .before .before .before .before .before .before .if1 .left)) (c .before .before .before .before .before .first-above-in .ensures) (rw n at (c .before .before .before .before .if2 .left)) (c .before .before .if3 .left) (rw mode (c .decide-by-pairs .ensures))
 
 decide-by-classes-requires : tie.Need-decide-by-classes-requires
 decide-by-classes-requires c κs = search needs
 
-by-ruling-requires-2 : tie.Need-by-ruling-requires-2
-by-ruling-requires-2 c κs = search needs
-
 returns-5 : tie.Need-returns-5
 returns-5 c =
-    let n = c .before .before .before .before .before .before .before .before .row-length .ensures in
-    let mode : c .before .before .before .before .before .before .before .before .before .before .before .before .before .before .args .by-pairs ≡ false = c .before .before .if4 .left in
-    c .by-ruling2 .ensures ∙ judged-row _ _ _ _ _ (rw n at (c .before .before .before .before .before .before .before .if1 .left)) (c .before .before .before .before .before .before .first-above-in .ensures) (rw n at (c .before .before .before .before .before .if2 .left)) (c .before .before .before .if3 .left) {a = rulingAnswer (c .before .decide-by-classes .result)} (rw mode (c .before .decide-by-classes .ensures _ _))
+    let n = c .before .before .before .before .before .before .before .row-length .ensures in
+    let mode : c .before .before .before .before .before .before .before .before .before .before .before .before .before .args .by-pairs ≡ false = c .before .if4 .left in
+    judged-row _ _ _ _ _ (rw n at (c .before .before .before .before .before .before .if1 .left)) (c .before .before .before .before .before .first-above-in .ensures) (rw n at (c .before .before .before .before .if2 .left)) (c .before .before .if3 .left) (rw mode (c .decide-by-classes .ensures _ _))
 
 pub decide-row-spec : {M : Type 1} → statement M
 decide-row-spec =
@@ -65,8 +58,6 @@ decide-row-spec =
     returns-2
     returns-3
     decide-by-pairs-requires
-    by-ruling-requires
     returns-4
     decide-by-classes-requires
-    by-ruling-requires-2
     returns-5)
