@@ -271,7 +271,7 @@ static void read_both(const char *title, const uint16_t *person_list)
     static const uint16_t banks[FILES] = {1, 1}, client[FILES] = {ASTER, BIRCH};
     const hc_house firm = {
         .logins = BOTH, .classes = banks, .classes_len = FILES, .clients = client, .clients_len = FILES,
-        .persons = person_list, .persons_len = BOTH,
+        .mode = HC_BY_CLASSES, .persons = person_list, .persons_len = BOTH,
     };
     uint8_t matrix[BOTH * FILES] = {0}, log[64];
     hc_reply r = {0};

@@ -562,10 +562,10 @@ fn the_same_pairs_in_another_form() {
     tally.met(&[0, 5, 6, 7, 20, 21, 22], 40);
 }
 
-/// The wall itself, seen in what is held and not in any answer: after a history from a blank matrix no login may read two clients that a
+/// The wall itself, seen in what is held and not in any answer: after a history from a blank matrix no person may read two clients that a
 /// pair names, and where it may write, it may read nothing of another client.
 #[test]
-fn no_login_reads_both_of_a_pair() {
+fn no_person_reads_both_of_a_pair() {
     let mut random = Random::new(98);
     let mut kept_apart = 0;
     for _ in 0..400 {

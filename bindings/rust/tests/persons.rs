@@ -276,7 +276,7 @@ fn ten_among_the_other_faults() {
 /// The bad entry at every place, the asking login at every other: the whole list is judged. The largest good number passes there.
 #[test]
 fn every_entry_is_judged() {
-    for logins in [1, 2, 3, 7, 8, 9, 31, 32, 33, 63, 64, 65, 127, 128] {
+    for logins in [1, 2, 3, 7, 8, 9, 15, 16, 17, 31, 32, 33, 63, 64, 65, 127, 128] {
         let house = Owned::new(logins, &[(1, 1), (1, 2)]);
         let asked = |house: &Owned, login: usize| {
             let (mut matrix, mut log) = (vec![0; 2 * logins], [0; 8]);
@@ -307,7 +307,7 @@ fn every_entry_is_judged() {
 /// Every number there is as an entry, of the asking login and of another.
 #[test]
 fn every_number_as_an_entry() {
-    for logins in [1, 2, 100, 127, 128] {
+    for logins in [1, 2, 15, 16, 100, 127, 128] {
         let mut house = Owned::new(logins, &[(1, 1)]);
         for entry in 0..=u16::MAX {
             house.persons[logins - 1] = entry;
@@ -328,10 +328,10 @@ fn every_number_as_an_entry() {
 #[test]
 fn lengths() {
     let lengths =
-        [0, 1, 2, 3, 64, 126, 127, 128, 129, 130, 255, 256, 257, 384, 512, 65_535, 65_536, 65_537, 65_538, 65_664];
+        [0, 1, 2, 3, 15, 16, 64, 126, 127, 128, 129, 130, 255, 256, 384, 512, 65_535, 65_536, 65_537, 65_538, 65_664];
     let mut random = Random::new(107);
     let mut tally = Tally::default();
-    for logins in [1, 2, 3, 64, 127, 128] {
+    for logins in [1, 2, 3, 15, 16, 64, 127, 128] {
         for len in lengths {
             for person in [0, logins - 1] {
                 let house = Owned::new(logins, &[(1, 1), (1, 2)]).of_persons(&vec![person as u16; len]);

@@ -2,14 +2,14 @@
 use Prim.Native.Nat.{ℕ, zero, suc, _+_, _*_, _≤_, _<_, _^_}
 use native.Mathlib.Omega.{arith}
 use mathlib.Core.Path.{_≡_, refl, ap, sym, _∙_}
-use mathlib.Core.Bool.{Bool, true, false, cond, _&&_, _||_}
+use mathlib.Core.Bool.{Bool, true, false, cond, _||_}
 use mathlib.Core.Logic.{_⊎_, inl, inr}
 use mathlib.Core.List.{List, [], _++_, append-assoc, append-nil}
 use lib.Dec.{eqb, leb, ltb}
 use lib.ListN.{length, replicate, take, length-replicate}
 use lib.Seq.{sets}
-use borrow.Author.Tests.{eqb-true, leb-true, ltb-false}
-use Rattle.vocabulary.proofs.Bools.{true-or-false, both}
+use borrow.Author.Tests.{eqb-true, ltb-false}
+use Rattle.vocabulary.proofs.Bools.{true-or-false}
 use Rattle.serial.specs.Serial.{following}
 use Rattle.person_list.specs.PersonList.{ownNumbers}
 use Rattle.person_list.proofs.PersonList.{own-take}

@@ -18,13 +18,13 @@ pub record Lawful (w : Wall) : Type 0 where
   pub symmetric : (c d : ℕ) → w .conflict c d → w .conflict d c
   pub real : (c d : ℕ) → w .conflict c d → c ≡ 0 → ⊥
 
--- Rights under which no use breaks the wall: what a person may read is free of conflict, and where it may write a folder, every unsanitised
--- folder that it may read has that folder's client.
+-- Rights under which no use breaks the wall: what a person may read is free of conflict, and where a person may write a folder, every
+-- unsanitised folder that the person may read has that folder's client.
 pub record Clean (w : Wall) (k : Rights) : Type 0 where
   pub apart : (s f g : ℕ) → k .read s f ≡ true → k .read s g ≡ true → w .conflict (w .own f) (w .own g) → ⊥
   pub confined : (s o f : ℕ) → k .write s o ≡ true → k .read s f ≡ true → (w .own f ≡ 0 → ⊥) → w .own f ≡ w .own o
 
--- What is held keeps to the rights: a folder holds just its own client, and a person only clients of folders that it may read.
+-- What is held keeps to the rights: a folder holds just its own client, and a person only clients of folders that this person may read.
 pub record Contained (w : Wall) (k : Rights) (h : Held) : Type 0 where
   pub own-only : (f c : ℕ) → h .folder f c → Own w f c
   pub own-held : (f c : ℕ) → Own w f c → h .folder f c

@@ -1,10 +1,10 @@
-// What a request is answered (document 01, 'Where each refusal is checked').
+// What a request is answered (document 01, 'Where each refusal is checked'; document 02, C-12 and C-14).
 use ids::FolderNo;
 ghost use mathlib.Core.Path.{_≡_};
 ghost use Rattle.response.specs.Response.{responseAnswer, numbersOf};
 
 pub enum Response {
-    // 0, with how many write rights were taken back
+    // 0, with how many write rights were taken back; 0 where the grant is not carried out yet
     Granted(u16),
     // 1: P or F beyond its range, or lists of unequal length
     OutOfRange,

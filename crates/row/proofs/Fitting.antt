@@ -1,4 +1,4 @@
--- Where lists and folder fit a row, the contracts speak of the wall alone; and the number of a ruling.
+-- Where lists and folder fit a row, the contracts speak of the wall alone; and what is handed on keeps the answer's number.
 use Prim.Native.Nat.{ℕ}
 use mathlib.Core.Path.{_≡_, sym}
 use mathlib.Core.Logic.{_⊎_, inl, inr}
@@ -17,7 +17,7 @@ use Rattle.row_labels.proofs.Fitting.{lists-fitting, folder-in}
 use Rattle.register_pairs.specs.Pair.{pairsFit}
 use Rattle.row.specs.Row.{fitChecks, rowAnswer, ruled, lostOn}
 
--- What a grant carries is dropped, not its number.
+-- What a grant carries is handed on as 0; its number stays.
 pub ruled-number : (a : Answer) → ruled a .number ≡ a .number
 ruled-number a = by (true-or-false (eqb (a .number) 0))
   where

@@ -1,7 +1,7 @@
 // What the wall says of a request, on the row of the person of the login that asks, and whether a grant takes write rights back (document 01, 'The
 // four kinds of request'; document 02, C-12 and C-14). The row is given by the matrix and its start; its folders are those of the classes' list.
 // Rows, lists and folders of any places, lengths and numbers may be given; whether they fit is asked before any walk. Kind and cells are judged by
-// the caller.
+// the caller. A grant tells nothing as taken back: it is not carried out yet.
 use cell_rules::Sort;
 use ids::FolderNo;
 use ids::Label;
@@ -18,8 +18,8 @@ ghost use Rattle.register.specs.Lent.{lentClients, lentFolders, lentFoldersBy};
 ghost use Rattle.policy.specs.Rules.{writes};
 ghost use Rattle.row_labels.specs.Cut.{Alongside};
 ghost use Rattle.row_marks.specs.Opposed.{firstOpposer};
-ghost use Rattle.row.specs.Cut.{ruledPast};
 ghost use Rattle.response.specs.Response.{responseAnswer};
+ghost use Rattle.row.specs.Cut.{ruledPast};
 ghost use Rattle.row.specs.Row.{rowAnswer, ruled, lostOn};
 
 mod walks; // the searches through a row

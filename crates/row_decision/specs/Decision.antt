@@ -5,7 +5,7 @@ use Prim.Native.Nat.{ℕ}
 use mathlib.Core.List.{List, [], _∷_}
 use lib.Dec.{ltb}
 use lib.ListN.{length}
-use Rattle.vocabulary.specs.Answer.{Answer, Check, answer, check, judge}
+use Rattle.vocabulary.specs.Answer.{Answer, Check, check, judge}
 use Rattle.vocabulary.specs.Those.{some, smallest}
 use Rattle.cells.specs.Above.{aboves}
 use Rattle.register.specs.Register.{Register}

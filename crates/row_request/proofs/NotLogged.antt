@@ -15,7 +15,7 @@ use Rattle.policy.specs.Outcome.{isLogged}
 abbrev others : List ℕ
 others = 1 ∷ 2 ∷ 3 ∷ 4 ∷ 5 ∷ 6 ∷ 7 ∷ 8 ∷ 9 ∷ 10 ∷ 11 ∷ 15 ∷ []
 
-pub not-logged : (a : Response) → OneOf (1 ∷ 2 ∷ 3 ∷ 4 ∷ 5 ∷ 6 ∷ 7 ∷ 8 ∷ 9 ∷ 10 ∷ 11 ∷ 15 ∷ []) (tagOf the-type a) → isLogged (responseAnswer a) ≡ false
+pub not-logged : (a : Response) → OneOf others (tagOf the-type a) → isLogged (responseAnswer a) ≡ false
 not-logged (Granted n) k = absurd (miss others 0 tt k)
 not-logged (Rival f) k = absurd (miss others 12 tt k)
 not-logged (Foreign f) k = absurd (miss others 13 tt k)

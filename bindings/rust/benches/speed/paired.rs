@@ -262,7 +262,7 @@ pub fn adversaries() -> Vec<(String, Input)> {
     inputs
 }
 
-/// 256 pairs drawn among these clients, of whom each login may read so many folders.
+/// 256 pairs drawn among these clients, of whom each person may read so many folders.
 fn drawn_among<'a>(random: &mut Random, clients: &'a [u16]) -> impl Fn(usize) -> Input + 'a {
     let pairs = drawn(random, clients, 256);
     move |reads| Input::by_pairs(clients, &pairs).many_reads(reads, |_| false, |_| true)

@@ -13,7 +13,7 @@ impl Input {
         self
     }
 
-    /// The last login has no person.
+    /// The last login's entry is P.
     fn spoilt(mut self) -> Input {
         *self.persons.last_mut().expect("there are logins") = self.logins as u16;
         self
