@@ -6,7 +6,7 @@ mod reference;
 mod support;
 
 use reference::{Ask, Refusal, Reply};
-use support::{cells, same_check, same_request, Guarded, Owned, Random, Tally, BY_PAIR};
+use support::{any_ask, cells, same_check, same_request, Guarded, Owned, Random, Tally, BY_PAIR};
 
 type Pair = (u16, u16);
 
@@ -479,16 +479,6 @@ fn written_out(random: &mut Random, house: &Owned) -> Vec<Pair> {
     pairs
 }
 
-/// Any request, mostly one that the wall decides.
-fn any(random: &mut Random, house: &Owned) -> Ask {
-    let (beyond, past) = (usize::from(random.once_in(40)), usize::from(random.once_in(40)));
-    Ask {
-        login: random.below(house.logins + beyond) as u16,
-        folder: random.below(house.folders() + past) as u16,
-        kind: if random.once_in(40) { random.pick(&[0, 5]) } else { random.range(1, 4) as u16 },
-    }
-}
-
 /// Two houses are asked the same, request for request, on the same matrix: they answer the same, and leave the same rights and log.
 fn alike(random: &mut Random, houses: [Owned; 2], matrix: &[u8], log_len: usize, tally: &mut Tally) {
     let [one, other] = houses;
@@ -496,7 +486,7 @@ fn alike(random: &mut Random, houses: [Owned; 2], matrix: &[u8], log_len: usize,
     let (mut other_matrix, mut other_log) = (matrix.clone(), log.clone());
     let (mut end, mut serial) = (0, support::serial(random));
     for _ in 0..150 {
-        let ask = any(random, &one);
+        let ask = any_ask(random, &one);
         let reply = same_request(&one.lend(), &mut matrix, ask, &mut log, end, serial);
         let other = same_request(&other.lend(), &mut other_matrix, ask, &mut other_log, end, serial);
         assert_eq!(reply, other, "{ask:?}");
@@ -574,7 +564,7 @@ fn no_person_reads_both_of_a_pair() {
         let (mut matrix, mut log) = (vec![0; logins * folders], vec![0; 20_000]);
         let (mut end, mut serial) = (0, 0);
         for _ in 0..200 {
-            let ask = any(&mut random, &house);
+            let ask = any_ask(&mut random, &house);
             let reply = support::raw_request(&house.lend(), &mut matrix, ask, &mut log, end, serial);
             (end, serial) = (reply.end, reply.serial);
             kept_apart += usize::from(reply.number == 20);

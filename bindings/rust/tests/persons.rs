@@ -8,7 +8,7 @@ mod support;
 use std::collections::BTreeSet;
 
 use reference::{Ask, House, Plain, Refusal, Reply};
-use support::{cells, same_request, Guarded, Owned, Random, Tally};
+use support::{any_ask, cells, same_request, Guarded, Owned, Random, Tally};
 
 /// Two rivals, a third client and a sanitised folder.
 const LABELS: [(u16, u16); 4] = [(1, 1), (1, 2), (2, 3), (0, 0)];
@@ -40,16 +40,6 @@ fn good(random: &mut Random, logins: usize, folders: usize, clients: usize) -> O
     match random.below(2) {
         0 => house,
         _ => house.with_pairs(random),
-    }
-}
-
-/// Any request, mostly one that the wall decides.
-fn any(random: &mut Random, house: &Owned) -> Ask {
-    let (beyond, past) = (usize::from(random.once_in(40)), usize::from(random.once_in(40)));
-    Ask {
-        login: random.below(house.logins + beyond) as u16,
-        folder: random.below(house.folders() + past) as u16,
-        kind: if random.once_in(40) { random.pick(&[0, 5]) } else { random.range(1, 4) as u16 },
     }
 }
 
@@ -208,7 +198,7 @@ fn persons_without_a_login() {
         }
         let mut desk = Desk::new(&mut random, house, &matrix, 3_000);
         for _ in 0..100 {
-            let Ask { login, folder, kind } = any(&mut random, &desk.house);
+            let Ask { login, folder, kind } = any_ask(&mut random, &desk.house);
             tally.add(number(&desk.ask(login, folder, kind)));
         }
         let rows = matrix.chunks(folders).zip(desk.matrix.inner().chunks(folders)).enumerate();
@@ -385,7 +375,7 @@ fn ten_changes_nothing() {
         let bytes = random.bytes(log_len);
         let (matrix, log) = (Guarded::new(&mut random, &content), Guarded::new(&mut random, &bytes));
         let (end, serial) = (random.pick(&[0, 1, 40, 41, usize::MAX]), support::serial(&mut random));
-        let ask = any(&mut random, &house);
+        let ask = any_ask(&mut random, &house);
         let (mut left_matrix, mut left_log) = (matrix.clone(), log.clone());
         let reply = same_request(&house.lend(), &mut left_matrix, ask, &mut left_log, end, serial);
         tally.add(number(&reply));
@@ -427,7 +417,7 @@ fn random_requests() {
         let mut desk = Desk::new(&mut random, house, &content, log_len);
         desk.end = if random.once_in(20) { log_len + 1 } else { random.below(log_len / 2 + 1) };
         desk.serial = support::serial(&mut random);
-        let Ask { login, folder, kind } = any(&mut random, &desk.house);
+        let Ask { login, folder, kind } = any_ask(&mut random, &desk.house);
         tally.add(desk.answer(login, folder, kind).0);
     }
     tally.met(&[0, 5, 6, 7, 8, 9, 10, 20, 21, 22, 30], 400);
@@ -481,7 +471,7 @@ fn each_login_its_own_person() {
         let log_len = random.pick(&[0, 6, 7, 8, 40, 40, 900]);
         let (mut matrix, mut log) = (Guarded::new(&mut random, &content), Guarded::new(&mut random, &vec![0; log_len]));
         let end = if random.once_in(20) { log_len + 1 } else { random.below(log_len / 2 + 1) };
-        let (ask, serial) = (any(&mut random, &Owned { logins, ..house.clone() }), support::serial(&mut random));
+        let (ask, serial) = (any_ask(&mut random, &Owned { logins, ..house.clone() }), support::serial(&mut random));
         let (mut old_matrix, mut old_log) = (matrix.clone(), log.clone());
         let old = as_before(&house.lend(), old_matrix.inner_mut(), ask, old_log.inner_mut(), end, serial);
         let reply = same_request(&house.lend(), &mut matrix, ask, &mut log, end, serial);
@@ -516,7 +506,7 @@ fn numbers_of_persons_are_names() {
         let mut one = Desk::new(&mut random, house.clone(), &content, 3_000);
         let mut other = Desk::new(&mut random, house.of_persons(&renamed), &rows(&content), 3_000);
         for _ in 0..80 {
-            let Ask { login, folder, kind } = any(&mut random, &one.house);
+            let Ask { login, folder, kind } = any_ask(&mut random, &one.house);
             let reply = one.ask(login, folder, kind);
             assert_eq!(reply, other.ask(login, folder, kind));
             tally.add(number(&reply));
@@ -540,7 +530,7 @@ fn logins_of_a_person_are_alike() {
         let mut other = Desk::blank(&mut random, house, 3_000);
         let mut asked = Vec::new();
         for _ in 0..80 {
-            let Ask { login, folder, kind } = any(&mut random, &one.house);
+            let Ask { login, folder, kind } = any_ask(&mut random, &one.house);
             let same =
                 (0..logins as u16).filter(|&it| persons.get(usize::from(login)) == Some(&persons[usize::from(it)]));
             let same: Vec<u16> = same.collect();
@@ -700,7 +690,7 @@ fn no_person_reads_two_rivals() {
         let house = if round % 2 == 0 { house } else { house.with_pairs(&mut random) };
         let mut desk = Desk::blank(&mut random, house, 40_000);
         for _ in 0..if folders == 512 { 600 } else { 150 } {
-            let Ask { login, folder, kind } = any(&mut random, &desk.house);
+            let Ask { login, folder, kind } = any_ask(&mut random, &desk.house);
             tally.add(desk.answer(login, folder, kind).0);
         }
         let mut read = vec![BTreeSet::new(); logins];

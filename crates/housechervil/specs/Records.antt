@@ -1,9 +1,11 @@
 -- Document 01's answers as the records that a caller in another language gets. A value that an answer does not carry is 0.
 use Prim.Native.Nat.{ℕ}
-use mathlib.Core.Bool.{cond}
+use mathlib.Core.Bool.{Bool, cond, not}
 use mathlib.Core.List.{List}
 use lib.Dec.{eqb}
 use lib.ListN.{getD}
+use denote.Ref.{RefT, now}
+use denote.Triple.Both.{Both}
 use Rattle.vocabulary.specs.Answer.{Answer}
 use Rattle.response.specs.Response.{numbersOf}
 use Rattle.response.specs.declared.Numbers.{Numbers}
@@ -22,6 +24,10 @@ abbrev pub carriedAt : ℕ → Answer → ℕ
 carriedAt i a = getD (a .carried) i 0
 
 -- ---- the register
+
+-- The mode as a caller gives it: 0 for classes, anything else for pairs.
+abbrev pub byPairs : ℕ → Bool
+byPairs mode = not (eqb mode 0)
 
 abbrev pub registerRecord : Answer → HcRegisterAnswer
 registerRecord a =
@@ -54,6 +60,10 @@ logAt bytes end serial =
       end = end;
       serial = serial;
     }
+
+-- The same, of the buffer as it is when the function is called.
+abbrev pub lentAt : {X : Type 0} → Both (RefT (List ℕ)) X → ℕ → ℕ → Log
+lentAt log end serial = logAt (now (log .entry)) end serial
 
 -- What the caller has after a request: the reply, the matrix and the log's bytes.
 pub record Served : Type 0 where

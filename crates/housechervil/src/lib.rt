@@ -6,8 +6,6 @@ use ids::Request;
 use log_writer::Tail;
 use names::Stretch;
 ghost use mathlib.Core.Path.{_≡_};
-ghost use mathlib.Core.Bool.{not};
-ghost use lib.Dec.{eqb};
 ghost use Rattle.audit_log.specs.Reader.{checked, stepAt};
 ghost use Rattle.names.specs.Name.{nameShown};
 ghost use Rattle.packing.specs.CopyOutcome.{packs};
@@ -18,7 +16,7 @@ ghost use Rattle.register.specs.Register.{registerAnswer};
 ghost use Rattle.serial.specs.Serial.{compared, following};
 ghost use Rattle.unpacking.specs.Unpacks.{unpacks};
 ghost use Rattle.varint.specs.Reading.{reading};
-ghost use Rattle.housechervil.specs.Records.{copied, logAt, logItem, numberOf, placedOf, registerRecord, served, servedBy};
+ghost use Rattle.housechervil.specs.Records.{byPairs, copied, lentAt, logItem, numberOf, placedOf, registerRecord, served, servedBy};
 
 mod told; // the answers of the crates as records
 
@@ -81,7 +79,7 @@ pub extern "C" fn hc_register_check(
     firsts: &[u16],
     seconds: &[u16],
 ) -> HcRegisterAnswer
-    ensures { λ r. ⌜ r ≡ registerRecord (registerAnswer (lentBy logins classes clients (not (eqb mode 0)) firsts seconds)) ⌝ }
+    ensures { λ r. ⌜ r ≡ registerRecord (registerAnswer (lentBy logins classes clients (byPairs mode) firsts seconds)) ⌝ }
 {
     let by_pairs = mode != 0;
     told::verdict(register_check::check(logins, classes, clients, by_pairs, firsts, seconds))
@@ -105,7 +103,7 @@ pub extern "C" fn hc_request(
     end: usize,
     serial: u16,
 ) -> HcReply
-    ensures { λ r. ⌜ servedBy r (now (matrix .exit)) (now (log .exit)) ≡ served (outcome (lentBy logins classes clients (not (eqb mode 0)) firsts seconds) (now (persons .entry)) (now (matrix .entry)) (request kind login folder) (logAt (now (log .entry)) end serial)) ⌝ }
+    ensures { λ r. ⌜ servedBy r (now (matrix .exit)) (now (log .exit)) ≡ served (outcome (lentBy logins classes clients (byPairs mode) firsts seconds) (now (persons .entry)) (now (matrix .entry)) (request kind login folder) (lentAt log end serial)) ⌝ }
 {
     let asked = Request {
         login: LoginNo(login),

@@ -707,3 +707,13 @@ impl Tally {
         assert!(self.0.values().all(|&times| times >= least), "met too seldom: {self:?}");
     }
 }
+
+/// Any request, mostly one that the wall decides.
+pub fn any_ask(random: &mut Random, house: &Owned) -> Ask {
+    let (beyond, past) = (usize::from(random.once_in(40)), usize::from(random.once_in(40)));
+    Ask {
+        login: random.below(house.logins + beyond) as u16,
+        folder: random.below(house.folders() + past) as u16,
+        kind: if random.once_in(40) { random.pick(&[0, 5]) } else { random.range(1, 4) as u16 },
+    }
+}
