@@ -1,5 +1,7 @@
 // The rules on one cell of a row and two labels, the folder's and that of the folder asked for (document 01, 'The four kinds of request'). Cells
 // and kinds are judged by the caller: a cell is read by its two rights, and a kind other than 1 to 4 asks for nothing.
+#![tactic(auto)]
+
 ghost use Rattle.std.specs.Prelude.{◌≡◌, not, eqb};
 ghost use Rattle.policy.specs.Rules.{cell_for};
 ghost use Rattle.cell_rules.specs.Cut.{of_sort, cell_left};
@@ -7,7 +9,7 @@ ghost use Rattle.cell_rules.specs.Cut.{of_sort, cell_left};
 use ids::Label;
 
 // What a walk over a row looks for.
-#[derive(Drop)]
+#[derive(Clone, Copy)]
 pub enum Sort {
     Rival,
     Foreign,

@@ -1,5 +1,7 @@
 // The search for what is no cell: document 01, 'The matrix', has cells of 0 to 3. And how much of a row the matrix has. A row is given by the matrix
 // and its start; one that lies past the matrix's end, in part or in whole, may be given too.
+#![tactic(auto)]
+
 ghost use Rattle.std.specs.Prelude.{◌-◌, min, ◌≡◌, length};
 ghost use Rattle.vocabulary.specs.Those.{some};
 ghost use Rattle.vocabulary.specs.Place.{row_at};

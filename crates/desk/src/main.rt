@@ -1,4 +1,6 @@
 // The desk (document 01, 'The desk program'): standard input to `desk_opening` and `desk_core` to standard output, nothing else.
+#![tactic(auto)]
+
 ghost use Rattle.std.specs.Prelude.{◌≡◌, length};
 
 use desk_opening::Opening;

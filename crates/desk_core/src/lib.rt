@@ -1,5 +1,7 @@
 // The desk's text interface over the monitor (document 01, 'The desk program'). The output is printed in steps: `desk_opening::open` takes
 // the input up to its first request, and `step` one line after the other from there.
+#![tactic(auto)]
+
 ghost use Rattle.std.specs.Prelude.{◌≡◌};
 ghost use Rattle.register.specs.Lent.{lent};
 ghost use Rattle.log_writer.specs.Reply.{log_of};

@@ -1,4 +1,6 @@
 // The lines of the desk's input (document 01, 'The desk program'): the line at a place.
+#![tactic(auto)]
+
 ghost use Rattle.std.specs.Prelude.{◌≡◌};
 ghost use Rattle.desk_lines.specs.Lines.{folder_line, kind_of, line_at, line_of, logins_line, or_ill, pair_at, request_line, single_at};
 
@@ -8,7 +10,7 @@ use numerals::Numeral;
 mod parts; // the parts of a line, read
 
 // A line and the place after it.
-#[derive(Drop)]
+#[derive(Clone, Copy)]
 pub enum Line {
     Logins(u16, usize),
     Folder {

@@ -1,4 +1,6 @@
 // The input up to its first request, or up to its end (document 01, 'The desk program').
+#![tactic(auto)]
+
 ghost use Rattle.std.specs.Prelude.{◌≡◌};
 ghost use Rattle.desk_opening.specs.Opened.{opened, opening_of};
 

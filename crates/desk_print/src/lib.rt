@@ -1,4 +1,6 @@
 // The lines that the desk prints of its input and of what is not logged (document 01, 'The desk program'), each as a text of its own.
+#![tactic(auto)]
+
 ghost use Rattle.std.specs.Prelude.{◌≡◌};
 ghost use Rattle.register_check.specs.Verdict.{verdict_answer};
 ghost use Rattle.text_lines.specs.Text.{text_of};

@@ -1,5 +1,7 @@
 // The library that C and Rust link: each export calls the crate that does the work and returns its answer as a plain record.
 // No rule stands here; include/housechervil.h says for callers what each entry means.
+#![tactic(auto)]
+
 ghost use Rattle.std.specs.Prelude.{◌≡◌};
 ghost use Rattle.audit_log.specs.Reader.{checked, step_at};
 ghost use Rattle.names.specs.Name.{name_shown};
@@ -21,7 +23,7 @@ mod told; // the answers of the crates as records
 
 // hc_register_answer: the number of the answer and the folders that it carries.
 #[repr(C)]
-#[derive(Drop)]
+#[derive(Clone, Copy)]
 pub struct HcRegisterAnswer {
     pub number: u16,
     pub first: u16,
@@ -30,7 +32,7 @@ pub struct HcRegisterAnswer {
 
 // hc_reply: the number, the folders carried, the write rights taken back by a grant, the log's new end and the next serial.
 #[repr(C)]
-#[derive(Drop)]
+#[derive(Clone, Copy)]
 pub struct HcReply {
     pub number: u16,
     pub first: u16,
@@ -42,7 +44,7 @@ pub struct HcReply {
 
 // hc_placed: the number, and the place or the number of records that it carries.
 #[repr(C)]
-#[derive(Drop)]
+#[derive(Clone, Copy)]
 pub struct HcPlaced {
     pub number: u16,
     pub value: usize,
@@ -51,7 +53,7 @@ pub struct HcPlaced {
 // hc_log_item: 0 and a record's fields, with the place of its list and the place after it; 1 and the log's length; or a refusal and its
 // place.
 #[repr(C)]
-#[derive(Drop)]
+#[derive(Clone, Copy)]
 pub struct HcLogItem {
     pub number: u16,
     pub serial: u16,
@@ -66,7 +68,7 @@ pub struct HcLogItem {
 
 // hc_number: 0, a number and the place after it; or a refusal and the place of the number's first byte.
 #[repr(C)]
-#[derive(Drop)]
+#[derive(Clone, Copy)]
 pub struct HcNumber {
     pub number: u16,
     pub value: u16,

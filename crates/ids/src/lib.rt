@@ -1,37 +1,39 @@
 // Folder, client, class, login and person numbers look alike on paper (document 01, 'The register' and 'Our forms for each place'; document 02,
 // C-14): each is a type of its own, so that one given in another's place does not build.
+#![tactic(auto)]
+
 ghost use Rattle.std.specs.Prelude.{◌≡◌, eqb};
 ghost use Rattle.ids.specs.Label.{label_of};
 
 // A login, numbered from 0: who asks.
-#[derive(Drop)]
+#[derive(Clone, Copy)]
 pub struct LoginNo(pub u16);
 
 // A person, numbered from 0: whose rights they are. A person may have several logins; 65,535 is no person.
-#[derive(Drop)]
+#[derive(Clone, Copy)]
 pub struct PersonNo(pub u16);
 
 // A folder, numbered from 0.
-#[derive(Drop)]
+#[derive(Clone, Copy)]
 pub struct FolderNo(pub u16);
 
 // A client; 0 is the client of a sanitised folder.
-#[derive(Drop)]
+#[derive(Clone, Copy)]
 pub struct ClientNo(pub u16);
 
 // A class of clients in competition; 0 is the class of a sanitised folder.
-#[derive(Drop)]
+#[derive(Clone, Copy)]
 pub struct ClassNo(pub u16);
 
 // A folder's label.
-#[derive(Drop)]
+#[derive(Clone, Copy)]
 pub struct Label {
     pub class: ClassNo,
     pub client: ClientNo,
 }
 
 // What a login asks for: a folder, and by its kind which rights on it. A kind may be any number; only 1 to 4 are served.
-#[derive(Drop)]
+#[derive(Clone, Copy)]
 pub struct Request {
     pub login: LoginNo,
     pub folder: FolderNo,

@@ -1,5 +1,7 @@
 // What each kind of request does (document 01, 'The four kinds of request'): which rights it enters, and whether it takes write rights back. A kind
 // other than 1 to 4 does nothing.
+#![tactic(auto)]
+
 ghost use Rattle.std.specs.Prelude.{◌≡◌};
 ghost use Rattle.policy.specs.Rules.{reads, writes, revokes};
 

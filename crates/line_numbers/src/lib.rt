@@ -1,4 +1,6 @@
 // The number of a line of the desk's input, under which it is told (document 01, 'The desk program').
+#![tactic(auto)]
+
 ghost use Rattle.std.specs.Prelude.{◌≤◌, ◌≡◌, cond};
 ghost use Rattle.line_numbers.specs.LineNumber.{line_number};
 

@@ -1,4 +1,6 @@
 // The reference monitor (document 01, 'The four kinds of request' and 'Where each refusal is checked'; document 02, C-12 to C-14).
+#![tactic(auto)]
+
 ghost use Rattle.std.specs.Prelude.{◌*◌, ◌<◌, ◌^◌, ◌≡◌};
 ghost use Rattle.register.specs.Lent.{lent_by};
 ghost use Rattle.policy.specs.Outcome.{outcome, told};

@@ -1,4 +1,6 @@
 // Names on the board (document 02, C-11): of two texts of folder names, the client's and the house's, the line that names a folder.
+#![tactic(auto)]
+
 ghost use Rattle.std.specs.Prelude.{◌+◌, ◌≤◌, ◌≡◌, length};
 ghost use Rattle.names.specs.Lines.{line_span};
 ghost use Rattle.names.specs.Name.{name_answer, name_shown, stretch_of};
@@ -10,14 +12,14 @@ use ids::FolderNo;
 mod scan; // a text passed over, in blocks
 
 // Where a line lies in a text: the place at which it begins, and how many bytes it has.
-#[derive(Drop)]
+#[derive(Clone, Copy)]
 pub struct Span {
     pub place: usize,
     pub length: usize,
 }
 
 // The answers: where the client's line lies, or the house's, each not empty; 81, neither has one.
-#[derive(Drop)]
+#[derive(Clone, Copy)]
 pub enum Name {
     Client(Span),
     House(Span),
@@ -26,7 +28,7 @@ pub enum Name {
 
 // An answer in numbers: 0 or 81; the text, 0 for the client's and 1 for the house's; the place in it, and how many bytes.
 #[repr(C)]
-#[derive(Drop)]
+#[derive(Clone, Copy)]
 pub struct Stretch {
     pub number: u16,
     pub text: u16,

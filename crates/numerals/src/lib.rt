@@ -1,10 +1,12 @@
 // A number in decimal digits, read at a place of a text (document 01, 'The desk program').
+#![tactic(auto)]
+
 ghost use Rattle.std.specs.Prelude.{◌≤◌, ◌≡◌, drop};
 ghost use Rattle.numerals.specs.Numbers.{byte_at, is_digit, number_at, numeral_of};
 ghost use Rattle.numerals.specs.Reads.{more_digits};
 
 // A number that was read and the place after it.
-#[derive(Drop)]
+#[derive(Clone, Copy)]
 pub enum Numeral {
     Read(u16, usize),
     Ill,

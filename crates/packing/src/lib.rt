@@ -1,4 +1,6 @@
 // Cells packed four to a byte (document 01, 'The matrix').
+#![tactic(auto)]
+
 ghost use Rattle.std.specs.Prelude.{◌≡◌, ◌+◌, ◌*◌, ◌≤◌, ◌<◌, length, get_or};
 ghost use Rattle.packing.specs.Cut.{AllCells};
 ghost use Rattle.packing.specs.Packed.{quarter, byte_of, byte_at, packed};
@@ -6,7 +8,7 @@ ghost use Rattle.packing.specs.CopyOutcome.{copy_outcome, packs};
 ghost use Rattle.packing.specs.Answers.{packing};
 
 // The answers of packing: 0; 60 with the place of the first cell above 3; 61, the lengths don't match.
-#[derive(Drop)]
+#[derive(Clone, Copy)]
 pub enum Packing {
     Packed,
     CellAbove(usize),

@@ -1,4 +1,6 @@
 // The person list: the person of each login, and refusal 10 (document 02, C-14). Lists of any length may be given.
+#![tactic(auto)]
+
 ghost use Rattle.std.specs.Prelude.{◌+◌, ◌-◌, ◌≤◌, ◌≡◌, leb, length};
 ghost use Rattle.vocabulary.specs.Those.{those, some};
 ghost use Rattle.person_list.specs.PersonList.{bad_persons, own_numbers, person_of};

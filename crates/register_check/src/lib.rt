@@ -1,4 +1,6 @@
 // The register check (document 01, 'The register'; document 02, C-12).
+#![tactic(auto)]
+
 mod zeros; // refusal 2
 
 ghost use Rattle.std.specs.Prelude.{◌≡◌, ◌&&◌};
@@ -11,7 +13,7 @@ use ids::FolderNo;
 use register_search::Clash;
 
 // The register check's answer.
-#[derive(Drop)]
+#[derive(Clone, Copy)]
 pub enum Verdict {
     // 0
     Accepted,

@@ -1,4 +1,6 @@
 // The pairs of clients in two lists, and refusal 11 (document 02, C-12). Lists of any lengths may be given.
+#![tactic(auto)]
+
 ghost use Rattle.std.specs.Prelude.{◌≡◌, ◌||◌, eqb, length};
 ghost use Rattle.vocabulary.specs.Those.{those, some};
 ghost use Rattle.register.specs.Lent.{lent_pairs};

@@ -1,5 +1,7 @@
 // The search for refusal 3 (document 01, 'The register'): the first folder that differs in class alone from an earlier one. Lists of any
 // lengths may be given; whether they fit is asked once, before any walk.
+#![tactic(auto)]
+
 mod few; // among few folders, by marks
 mod scan; // plain searches through the labels
 mod table; // among many, by a table
@@ -15,7 +17,7 @@ use crate::table::walk_later;
 use ids::FolderNo;
 
 // What the search found.
-#[derive(Drop)]
+#[derive(Clone, Copy)]
 pub enum Clash {
     Never,
     // the first folder that differs from an earlier one of its client, and the first such earlier one

@@ -28,7 +28,7 @@ fn list_slots(clients: &[u16], slots: &mut [u16; 512])
 }
 
 // The last folder of a client, as one more than its number, or 0, and how many steps are left; or the walk was given up.
-#[derive(Drop)]
+#[derive(Clone, Copy)]
 pub(crate) enum Sought {
     Past(usize, usize),
     GaveUp,

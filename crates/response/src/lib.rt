@@ -1,10 +1,12 @@
 // What a request is answered (document 01, 'Where each refusal is checked'; document 02, C-12 and C-14).
+#![tactic(auto)]
+
 ghost use Rattle.std.specs.Prelude.{◌≡◌};
 ghost use Rattle.response.specs.Response.{response_answer, numbers_of};
 
 use ids::FolderNo;
 
-#[derive(Drop)]
+#[derive(Clone, Copy)]
 pub enum Response {
     // 0, with how many write rights were taken back; 0 where the grant is not carried out yet
     Granted(u16),
@@ -42,7 +44,7 @@ pub enum Response {
 
 // A response in numbers: document 01's number, the folders that it carries, and how many write rights a grant took back. What it does
 // not carry is 0.
-#[derive(Drop)]
+#[derive(Clone, Copy)]
 pub struct Numbers {
     pub number: u16,
     pub first: u16,

@@ -2,6 +2,8 @@
 // four kinds of request'; document 02, C-12 and C-14). The row is given by the matrix and its start; its folders are those of the classes' list.
 // Rows, lists and folders of any places, lengths and numbers may be given; whether they fit is asked before any walk. Kind and cells are judged by
 // the caller. A grant tells nothing as taken back: it is not carried out yet.
+#![tactic(auto)]
+
 ghost use Rattle.std.specs.Prelude.{ℕ, ◌≤◌, ◌≡◌, true, false, List, length};
 ghost use Rattle.vocabulary.specs.Those.{some};
 ghost use Rattle.vocabulary.specs.Place.{row_in, lent_row};

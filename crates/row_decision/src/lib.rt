@@ -2,6 +2,8 @@
 // C-14): 1 for a row of over 512 folders, rows 8 and 9 of the table, 1 for lists that do not fit the row, then what the row's crate says. The row is
 // given by the matrix and its start; its folders are those of the classes' list. Any row, lists and folder may be given; the kind is judged by the
 // caller.
+#![tactic(auto)]
+
 ghost use Rattle.std.specs.Prelude.{◌≡◌, []};
 ghost use Rattle.vocabulary.specs.Answer.{answer, judge};
 ghost use Rattle.vocabulary.specs.Place.{lent_row};

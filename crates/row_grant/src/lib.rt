@@ -1,6 +1,8 @@
 // The row that a grant leaves (document 01, 'The four kinds of request'), in its place in the matrix: its folders are those of the classes' list. Rows,
 // lists and folders of any places, lengths and numbers may be given; whether they fit is asked once, before the walk. Kind and cells are judged by the
 // caller.
+#![tactic(auto)]
+
 ghost use Rattle.std.specs.Prelude.{◌+◌, ◌≡◌, length};
 ghost use Rattle.vocabulary.specs.Each.{each};
 ghost use Rattle.vocabulary.specs.Place.{row_in, lent_row, with_row_at};

@@ -1,5 +1,7 @@
 // The two lists of labels that a caller lends beside a person's row: whether they fit it, and a folder's label. The row is given by the matrix and
 // its start; its folders are those of the classes' list. Rows, lists and folders of any places, lengths and numbers may be given.
+#![tactic(auto)]
+
 ghost use Rattle.std.specs.Prelude.{◌≡◌, get_or};
 ghost use Rattle.vocabulary.specs.Place.{lent_row};
 ghost use Rattle.register.specs.Lent.{lent_folders};

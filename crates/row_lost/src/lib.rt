@@ -1,6 +1,8 @@
 // The write rights that a grant takes back, listed (document 01, 'The four kinds of request'). The row is given by the matrix and its start; its folders
 // are those of the classes' list. Rows, lists and folders of any places, lengths and numbers may be given; whether they fit is asked once, before any
 // walk. Kind and cells are judged by the caller.
+#![tactic(auto)]
+
 ghost use Rattle.std.specs.Prelude.{◌≤◌, ◌≡◌, length};
 ghost use Rattle.vocabulary.specs.Place.{row_in, lent_row};
 ghost use Rattle.register.specs.Lent.{lent_folders};

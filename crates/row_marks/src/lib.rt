@@ -1,6 +1,8 @@
 // The search for a rival by pairs, on a row alone (document 02, C-12): the opponents of the client asked for are marked once, then each folder's
 // client is looked up, so that the work grows with folders plus pairs. The row is given by the matrix and its start; its folders are those of the
 // clients' list. Rows and lists of any places and lengths may be given; whether they fit is asked once, before any walk.
+#![tactic(auto)]
+
 mod client_set; // a set of clients
 mod marking; // the opponents, marked
 mod walk; // the row, folder by folder

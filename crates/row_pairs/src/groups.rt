@@ -9,7 +9,7 @@ ghost use Rattle.row_pairs.specs.Among.{one_of, readable_with, first_below, four
 use ids::{ClientNo, same_client};
 
 // Four clients, sought at once.
-#[derive(Drop)]
+#[derive(Clone, Copy)]
 pub(crate) struct Four(ClientNo, ClientNo, ClientNo, ClientNo);
 
 // Whether a client is one of four.

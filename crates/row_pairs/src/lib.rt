@@ -1,6 +1,8 @@
 // The search for a rival by pairs, on a row alone (document 02, C-12), quickest where the client asked for has few opponents. The row is given
 // by the matrix and its start; its folders are those of the clients' list. Rows and lists of any places and lengths may be given; whether they fit is
 // asked before any walk.
+#![tactic(auto)]
+
 mod groups; // the folders of listed clients, sought by four clients at a time
 mod listing; // the opponents, counted and listed
 

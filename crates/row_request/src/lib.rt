@@ -1,6 +1,8 @@
 // A request on the row of the person of the login that asks, judged and carried out: the rows of the table from 8 to 30 (document 01, 'Where each
 // refusal is checked'; document 02, C-14). The row is given by the matrix and its start; its folders are those of the classes' list. Any row, lists
 // and folder may be given: what does not fit gets 1, 11 or 6. The kind is judged by the caller.
+#![tactic(auto)]
+
 ghost use Rattle.std.specs.Prelude.{◌≡◌};
 ghost use Rattle.register.specs.Lent.{lent_folders_by};
 ghost use Rattle.log_writer.specs.Reply.{request_of, lent_log, replied};

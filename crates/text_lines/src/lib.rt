@@ -1,4 +1,6 @@
 // Lines of words and numbers, each printed as a text of its own.
+#![tactic(auto)]
+
 ghost use Rattle.std.specs.Prelude.{◌≡◌, []};
 ghost use Rattle.text_lines.specs.Text.{bounded, text_of};
 

@@ -1,4 +1,6 @@
 // Packed cells, unpacked (document 01, 'The matrix').
+#![tactic(auto)]
+
 ghost use Rattle.std.specs.Prelude.{◌≡◌, ◌≤◌, ◌<◌, length};
 ghost use Rattle.packing.specs.CopyOutcome.{copy_outcome};
 ghost use Rattle.packing.specs.Cut.{filled};
@@ -8,7 +10,7 @@ ghost use Rattle.unpacking.specs.Unpacked.{from, cell_at, unpacked, unused};
 ghost use Rattle.unpacking.specs.Unpacks.{unpacks};
 
 // The answers of unpacking: 0; 62, unused bits of the last byte are set; 61, the lengths don't match.
-#[derive(Drop)]
+#[derive(Clone, Copy)]
 pub enum Unpacking {
     Unpacked,
     UnusedSet,

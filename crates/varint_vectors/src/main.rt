@@ -1,5 +1,7 @@
 // Runs document 01's numbers through `varint_write` and `varint_read`: each one's bytes, readings with their answers (number, then what it
 // carries), and how many of the 65,536 numbers come back from their bytes.
+#![tactic(auto)]
+
 use varint_read::Decoded;
 use varint_write::Written;
 

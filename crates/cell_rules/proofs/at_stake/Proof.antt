@@ -13,5 +13,5 @@ returns : tie.Need-returns
 returns c =
     rw (c.sanitised.ensures, c.before.other-client.ensures)
 
-pub at-stake-spec : {M : Type 1} → statement M
-at-stake-spec = tie.close (tie.spec other-client-requires sanitised-requires returns)
+pub at_stake_spec : {M : Type 1} → statement M
+at_stake_spec = tie.close (tie.spec other-client-requires sanitised-requires returns)

@@ -31,5 +31,5 @@ add-result c = omega (arith, bool_byte-most c.args.read, bool_byte-most c.args.w
 returns : tie.Need-returns
 returns c = cell-of-bytes c.args.read c.args.write
 
-pub cell-for-spec : {M : Type 1} → statement M
-cell-for-spec = tie.close (tie.spec cast-result cast-result-2 mul-result add-result returns)
+pub cell_for_spec : {M : Type 1} → statement M
+cell_for_spec = tie.close (tie.spec cast-result cast-result-2 mul-result add-result returns)

@@ -22,8 +22,8 @@ returns : tie.Need-returns
 returns c =
     rw (c.before.before.before.before.revokes.ensures, c.before.before.before.at-stake.ensures, c.before.before.reads.ensures, c.before.writes.ensures) at c.cell-for.ensures
 
-pub cell-left-spec : {M : Type 1} → statement M
-cell-left-spec =
+pub cell_left_spec : {M : Type 1} → statement M
+cell_left_spec =
     tie.close
     (tie.spec
     revokes-requires

@@ -13,5 +13,5 @@ returns : tie.Need-returns
 returns c =
     rw (c.before.sanitised.ensures, c.other-client.ensures)
 
-pub is-foreign-spec : {M : Type 1} → statement M
-is-foreign-spec = tie.close (tie.spec sanitised-requires other-client-requires returns)
+pub is_foreign_spec : {M : Type 1} → statement M
+is_foreign_spec = tie.close (tie.spec sanitised-requires other-client-requires returns)

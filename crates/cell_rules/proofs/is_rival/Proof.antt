@@ -13,5 +13,5 @@ returns : tie.Need-returns
 returns c =
     rw (c.before.one_class.ensures, c.other-client.ensures)
 
-pub is-rival-spec : {M : Type 1} → statement M
-is-rival-spec = tie.close (tie.spec one-class-requires other-client-requires returns)
+pub is_rival_spec : {M : Type 1} → statement M
+is_rival_spec = tie.close (tie.spec one-class-requires other-client-requires returns)

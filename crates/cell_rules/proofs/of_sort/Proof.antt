@@ -33,8 +33,8 @@ returns-3 : tie.Need-returns-3
 returns-3 c =
     rw c.before.enum-told3.given.1 c.at-stake.ensures
 
-pub of-sort-spec : {M : Type 1} → statement M
-of-sort-spec =
+pub of_sort_spec : {M : Type 1} → statement M
+of_sort_spec =
     tie.close
     (tie.spec
     enum_told

@@ -10,5 +10,5 @@ returns : tie.Need-returns
 returns c =
     rw c.same-client.ensures
 
-pub other-client-spec : {M : Type 1} → statement M
-other-client-spec = tie.close (tie.spec same-client-requires returns)
+pub other_client_spec : {M : Type 1} → statement M
+other_client_spec = tie.close (tie.spec same-client-requires returns)

@@ -54,8 +54,8 @@ unfolding aboves
 returns c =
     c.before.loop.invariant.1.1 ∙ ap some (those-end _ _ _ c.loop-test.false c.before.loop.invariant.0 ∙ ap (those _) (sym c.before.before.requires))
 
-pub any-above-spec : {M : Type 1} → statement M
-any-above-spec =
+pub any_above_spec : {M : Type 1} → statement M
+any_above_spec =
     tie.close
     (tie.spec
     invariant-loop

@@ -20,5 +20,5 @@ unfolding aboves
 returns-2 c =
     sym c.before.before.before.requires ∙ first_absent _ _ _ (sym c.before.any-above.ensures ∙ c.if1.false)
 
-pub find-above-spec : {M : Type 1} → statement M
-find-above-spec = tie.close (tie.spec any-above-requires seek-above-requires returns returns-2)
+pub find_above_spec : {M : Type 1} → statement M
+find_above_spec = tie.close (tie.spec any-above-requires seek-above-requires returns returns-2)

@@ -12,5 +12,5 @@ find-above-requires c κs = ap length (row_at-all c.before.args.cells.now)
 returns : tie.Need-returns
 returns c = c.find-above.ensures ∙ ap first_above (row_at-all c.before.before.args.cells.now)
 
-pub first-above-spec : {M : Type 1} → statement M
-first-above-spec = tie.close (tie.spec find-above-requires returns)
+pub first_above_spec : {M : Type 1} → statement M
+first_above_spec = tie.close (tie.spec find-above-requires returns)

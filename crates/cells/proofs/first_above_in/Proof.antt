@@ -21,5 +21,5 @@ returns c =
     let s = c.before.before.before.args in
     c.find-above.ensures ∙ (ap (λ (n : ℕ). first_above (row_at s.matrix.now s.start n)) c.before.row-length.ensures ∙ ap first_above (row_at-length s.matrix.now s.start s.folders))
 
-pub first-above-in-spec : {M : Type 1} → statement M
-first-above-in-spec = tie.close (tie.spec row-length-requires find-above-requires returns)
+pub first_above_in_spec : {M : Type 1} → statement M
+first_above_in_spec = tie.close (tie.spec row-length-requires find-above-requires returns)

@@ -14,5 +14,5 @@ smaller-requires c κs = search rules
 returns : tie.Need-returns
 returns c = rw (length-take, length-drop, c.smaller.ensures, c.before.remaining.ensures) (omega arith)
 
-pub row-length-spec : {M : Type 1} → statement M
-row-length-spec = tie.close (tie.spec remaining-requires smaller-requires returns)
+pub row_length_spec : {M : Type 1} → statement M
+row_length_spec = tie.close (tie.spec remaining-requires smaller-requires returns)

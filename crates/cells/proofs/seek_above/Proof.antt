@@ -59,8 +59,8 @@ returns-2 c =
     let e = c.before.before.requires in
     sym (first-end _ _ _ c.before.loop.invariant.1.1 (rw e c.before.loop.invariant.0) (rw e c.loop-test.false))
 
-pub seek-above-spec : {M : Type 1} → statement M
-seek-above-spec =
+pub seek_above_spec : {M : Type 1} → statement M
+seek_above_spec =
     tie.close
     (tie.spec
     invariant-loop

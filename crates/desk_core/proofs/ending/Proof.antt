@@ -22,5 +22,5 @@ returns-2 : tie.Need-returns-2
 unfolding ending
 returns-2 c = rw (c.bad-line.ensures, c.before.line-number.ensures, lt-leb _ _ c.before.before.if1.false)
 
-pub ending-spec : {M : Type 1} → statement M
-ending-spec = tie.close (tie.spec nothing-requires returns line-number-requires bad-line-requires returns-2)
+pub ending_spec : {M : Type 1} → statement M
+ending_spec = tie.close (tie.spec nothing-requires returns line-number-requires bad-line-requires returns-2)

@@ -37,8 +37,8 @@ unfolding pair_at ◌>>=◌
 returns-3 c =
     rw (← c.before.before.before.before.before.before.before.read-part.ensures, c.before.before.before.before.before.class.given.1, ← c.before.before.before.read-last.ensures, c.before.client.given.1)
 
-pub read-folder-spec : {M : Type 1} → statement M
-read-folder-spec =
+pub read_folder_spec : {M : Type 1} → statement M
+read_folder_spec =
     tie.close
     (tie.spec
     read-part-requires

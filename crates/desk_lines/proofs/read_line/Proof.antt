@@ -63,8 +63,8 @@ unfolding line_at
 returns-5 c =
     rw (← letter c.before.before.before.before.before.before, ne_eqb _ _ c.before.before.before.before.if2.false, ne_eqb _ _ c.before.before.before.if3.false, ← c.before.before.kind-of.ensures, lt-ltb 0 c.before.before.kind-of.result (omega arith), c.read-request.ensures, add-one)
 
-pub read-line-spec : {M : Type 1} → statement M
-read-line-spec =
+pub read_line_spec : {M : Type 1} → statement M
+read_line_spec =
     tie.close
     (tie.spec
     returns

@@ -22,5 +22,5 @@ returns-2 : tie.Need-returns-2
 unfolding single_at ◌>>=◌
 returns-2 c = rw (← c.before.before.before.read-last.ensures, c.before.n.given.1)
 
-pub read-logins-spec : {M : Type 1} → statement M
-read-logins-spec = tie.close (tie.spec read-last-requires enum_told enum-known-n returns returns-2)
+pub read_logins_spec : {M : Type 1} → statement M
+read_logins_spec = tie.close (tie.spec read-last-requires enum_told enum-known-n returns returns-2)

@@ -37,8 +37,8 @@ unfolding pair_at ◌>>=◌
 returns-3 c =
     rw (← c.before.before.before.before.before.before.before.read-part.ensures, c.before.before.before.before.before.login.given.1, ← c.before.before.before.read-last.ensures, c.before.folder.given.1)
 
-pub read-request-spec : {M : Type 1} → statement M
-read-request-spec =
+pub read_request_spec : {M : Type 1} → statement M
+read_request_spec =
     tie.close
     (tie.spec
     read-part-requires

@@ -15,6 +15,6 @@ line-requires c κs = search rules
 returns : tie.Need-returns
 returns c = search rules
 
-pub dash-line-spec : {M : Type 1} → statement M
-dash-line-spec =
+pub dash_line_spec : {M : Type 1} → statement M
+dash_line_spec =
     tie.close (tie.spec slice-aggregate-line slice-aggregate-line-2 line-requires returns)

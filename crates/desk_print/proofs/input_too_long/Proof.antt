@@ -15,6 +15,6 @@ line-requires c κs = search rules
 returns : tie.Need-returns
 returns c = search rules
 
-pub input-too-long-spec : {M : Type 1} → statement M
-input-too-long-spec =
+pub input_too_long_spec : {M : Type 1} → statement M
+input_too_long_spec =
     tie.close (tie.spec slice-aggregate-line slice-aggregate-line-2 line-requires returns)

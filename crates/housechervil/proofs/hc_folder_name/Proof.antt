@@ -14,5 +14,5 @@ returns : tie.Need-returns
 returns c =
     c.in-numbers.ensures ∙ c.before.find.ensures
 
-pub hc-folder-name-spec : {M : Type 1} → statement M
-hc-folder-name-spec = tie.close (tie.spec find-requires in-numbers-requires returns)
+pub hc_folder_name_spec : {M : Type 1} → statement M
+hc_folder_name_spec = tie.close (tie.spec find-requires in-numbers-requires returns)

@@ -13,5 +13,5 @@ returns : tie.Need-returns
 returns c =
     rw (c.checked.ensures, c.before.check.ensures)
 
-pub hc-log-check-spec : {M : Type 1} → statement M
-hc-log-check-spec = tie.close (tie.spec check-requires checked-requires returns)
+pub hc_log_check_spec : {M : Type 1} → statement M
+hc_log_check_spec = tie.close (tie.spec check-requires checked-requires returns)

@@ -16,5 +16,5 @@ returns : tie.Need-returns
 returns c =
     rw c.item.ensures (ap (λ (x : Advanced). log_item x.item) c.before.step_from.ensures)
 
-pub hc-log-step-spec : {M : Type 1} → statement M
-hc-log-step-spec = tie.close (tie.spec step-from-requires item-requires returns)
+pub hc_log_step_spec : {M : Type 1} → statement M
+hc_log_step_spec = tie.close (tie.spec step-from-requires item-requires returns)

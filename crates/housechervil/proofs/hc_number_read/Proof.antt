@@ -13,5 +13,5 @@ returns : tie.Need-returns
 returns c =
     rw (c.decoded.ensures, c.before.read.ensures)
 
-pub hc-number-read-spec : {M : Type 1} → statement M
-hc-number-read-spec = tie.close (tie.spec read-requires decoded-requires returns)
+pub hc_number_read_spec : {M : Type 1} → statement M
+hc_number_read_spec = tie.close (tie.spec read-requires decoded-requires returns)

@@ -18,5 +18,5 @@ returns : tie.Need-returns
 returns c =
     rw c.packing.ensures (ap copied c.before.before.before.pack.ensures)
 
-pub hc-pack-spec : {M : Type 1} → statement M
-hc-pack-spec = tie.close (tie.spec pack-requires packing-requires same_length returns)
+pub hc_pack_spec : {M : Type 1} → statement M
+hc_pack_spec = tie.close (tie.spec pack-requires packing-requires same_length returns)

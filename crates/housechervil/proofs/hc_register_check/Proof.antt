@@ -13,5 +13,5 @@ returns : tie.Need-returns
 returns c =
     rw (c.verdict.ensures, c.before.check.ensures)
 
-pub hc-register-check-spec : {M : Type 1} → statement M
-hc-register-check-spec = tie.close (tie.spec check-requires verdict-requires returns)
+pub hc_register_check_spec : {M : Type 1} → statement M
+hc_register_check_spec = tie.close (tie.spec check-requires verdict-requires returns)

@@ -26,6 +26,6 @@ returns : tie.Need-returns
 returns c =
     rw c.reply.ensures (ap told c.before.before.before.before.before.request.ensures)
 
-pub hc-request-spec : {M : Type 1} → statement M
-hc-request-spec =
+pub hc_request_spec : {M : Type 1} → statement M
+hc_request_spec =
     tie.close (tie.spec request-requires reply-requires same_length same-length-2 returns)

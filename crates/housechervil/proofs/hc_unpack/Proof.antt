@@ -18,5 +18,5 @@ returns : tie.Need-returns
 returns c =
     rw c.unpacking.ensures (ap copied c.before.before.before.unpack.ensures)
 
-pub hc-unpack-spec : {M : Type 1} → statement M
-hc-unpack-spec = tie.close (tie.spec unpack-requires unpacking-requires same_length returns)
+pub hc_unpack_spec : {M : Type 1} → statement M
+hc_unpack_spec = tie.close (tie.spec unpack-requires unpacking-requires same_length returns)

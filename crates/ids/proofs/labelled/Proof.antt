@@ -6,5 +6,5 @@ use Rattle.ids.proofs.labelled.Tie as tie
 returns : tie.Need-returns
 returns c = search rules
 
-pub labelled-spec : {M : Type 1} → statement M
-labelled-spec = tie.close (tie.spec returns)
+pub labelled_spec : {M : Type 1} → statement M
+labelled_spec = tie.close (tie.spec returns)

@@ -6,5 +6,5 @@ use Rattle.ids.proofs.same_class.Tie as tie
 returns : tie.Need-returns
 returns c = search rules
 
-pub same-class-spec : {M : Type 1} → statement M
-same-class-spec = tie.close (tie.spec returns)
+pub same_class_spec : {M : Type 1} → statement M
+same_class_spec = tie.close (tie.spec returns)

@@ -6,5 +6,5 @@ use Rattle.ids.proofs.same_client.Tie as tie
 returns : tie.Need-returns
 returns c = search rules
 
-pub same-client-spec : {M : Type 1} → statement M
-same-client-spec = tie.close (tie.spec returns)
+pub same_client_spec : {M : Type 1} → statement M
+same_client_spec = tie.close (tie.spec returns)

@@ -6,5 +6,5 @@ use Rattle.kinds.proofs.reads.Tie as tie
 returns : tie.Need-returns
 returns c = search rules
 
-pub reads-spec : {M : Type 1} → statement M
-reads-spec = tie.close (tie.spec returns)
+pub reads_spec : {M : Type 1} → statement M
+reads_spec = tie.close (tie.spec returns)

@@ -6,5 +6,5 @@ use Rattle.kinds.proofs.revokes.Tie as tie
 returns : tie.Need-returns
 returns c = search rules
 
-pub revokes-spec : {M : Type 1} → statement M
-revokes-spec = tie.close (tie.spec returns)
+pub revokes_spec : {M : Type 1} → statement M
+revokes_spec = tie.close (tie.spec returns)

@@ -6,5 +6,5 @@ use Rattle.kinds.proofs.writes.Tie as tie
 returns : tie.Need-returns
 returns c = search rules
 
-pub writes-spec : {M : Type 1} → statement M
-writes-spec = tie.close (tie.spec returns)
+pub writes_spec : {M : Type 1} → statement M
+writes_spec = tie.close (tie.spec returns)

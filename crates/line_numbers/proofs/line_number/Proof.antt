@@ -58,8 +58,8 @@ returns c =
     let a = c.before.before.before.args in
     c.before.loop.invariant.1.1 ∙ ap suc (ended-stop a.text.now c.before.loop.i a.place (omega arith) c.loop-test.false)
 
-pub line-number-spec : {M : Type 1} → statement M
-line-number-spec =
+pub line_number_spec : {M : Type 1} → statement M
+line_number_spec =
     tie.close
     (tie.spec
     invariant-loop

@@ -43,8 +43,8 @@ returns-2 c =
     let s = c.before.before.before.before.before.before.before.before.before.args in
     outcome-refused (register_by s.logins s.classes.now s.clients.now s.by-pairs s.firsts.now s.seconds.now) s.persons.now s.matrix.now (request_of s.asked) (log_of s.log.now s.tail) _ (not-granted c.before.judge-front.result c.match.keys2) c.before.judge-front.ensures
 
-pub request-spec : {M : Type 1} → statement M
-request-spec =
+pub request_spec : {M : Type 1} → statement M
+request_spec =
     tie.close
     (tie.spec
     judge-front-requires

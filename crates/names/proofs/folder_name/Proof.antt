@@ -48,8 +48,8 @@ returns-3 : tie.Need-returns-3
 returns-3 c =
     cut-none (part_of c.before.before.before.before.before.before.args.client) ∙ cut-name_shown _ _ _ {s = no_stretch} (rw c.before.enum_told.given.1 at c.before.before.before.find.ensures)
 
-pub folder-name-spec : {M : Type 1} → statement M
-folder-name-spec =
+pub folder_name_spec : {M : Type 1} → statement M
+folder_name_spec =
     tie.close
     (tie.spec
     find-requires

@@ -30,8 +30,8 @@ returns-3 : tie.Need-returns-3
 returns-3 c =
     rw c.enum_told.given.1
 
-pub in-numbers-spec : {M : Type 1} → statement M
-in-numbers-spec =
+pub in_numbers_spec : {M : Type 1} → statement M
+in_numbers_spec =
     tie.close
     (tie.spec
     enum-known-name

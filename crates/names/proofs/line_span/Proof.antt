@@ -18,5 +18,5 @@ returns : tie.Need-returns
 returns c =
     line-measured _ _ c.before.line-start.ensures c.line-end.ensures
 
-pub line-span-spec : {M : Type 1} → statement M
-line-span-spec = tie.close (tie.spec line-start-requires line-end-requires sub-t5 returns)
+pub line_span_spec : {M : Type 1} → statement M
+line_span_spec = tie.close (tie.spec line-start-requires line-end-requires sub-t5 returns)

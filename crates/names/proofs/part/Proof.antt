@@ -20,5 +20,5 @@ returns : tie.Need-returns
 returns c =
     rw (add-sub_cancel_left, add_comm c.before.before.args.span.place c.before.before.args.text.ptr.1)
 
-pub part-spec : {M : Type 1} → statement M
-part-spec = tie.close (tie.spec add-end sub-result part-result-start part-result-end returns)
+pub part_spec : {M : Type 1} → statement M
+part_spec = tie.close (tie.spec add-end sub-result part-result-start part-result-end returns)

@@ -90,8 +90,8 @@ returns-3 t c =
     let a = c.before.before.before.before.before.before.args in
     c.more-digits.ensures ∙ rw c.before.before.before.before.byte_at.ensures (sym (more-on a.text.now a.at a.n a.value (digit t c.before.before)))
 
-pub +more-digits-spec : {M : Type 1} → statement M
-+more-digits-spec =
+pub +more_digits_spec : {M : Type 1} → statement M
++more_digits_spec =
     close μ λ t. lts.spec (calls t) (given t) more-digits.Post
     (byte-at-requires t)
     (is-digit-requires t)

@@ -19,5 +19,5 @@ returns c =
 returns-2 : tie.Need-returns-2
 returns-2 c = rw (byte_past c.before.args.text.now c.before.args.place c.if1.false)
 
-pub byte-at-spec : {M : Type 1} → statement M
-byte-at-spec = tie.close (tie.spec shared-slice-read-result cast-result returns returns-2)
+pub byte_at_spec : {M : Type 1} → statement M
+byte_at_spec = tie.close (tie.spec shared-slice-read-result cast-result returns returns-2)

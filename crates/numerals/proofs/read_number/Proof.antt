@@ -48,8 +48,8 @@ returns-3 c =
     let a = c.before.before.before.before.before.before.before.before.args in
     c.more-digits.ensures ∙ sym (number-on a.text.now a.place (digit c.before.before.before.before) (rw (c.before.before.is-digit2.ensures, c.before.before.before.byte-at2.ensures, c.before.before.before.before.before.before.byte_at.ensures) at c.before.if2.false))
 
-pub read-number-spec : {M : Type 1} → statement M
-read-number-spec =
+pub read_number_spec : {M : Type 1} → statement M
+read_number_spec =
     tie.close
     (tie.spec
     byte-at-requires

@@ -15,5 +15,5 @@ returns-2 : tie.Need-returns-2
 returns-2 c =
     sym (get_or-eq_default c.before.args.bytes.now 0 c.if1.false)
 
-pub at-or-0-spec : {M : Type 1} → statement M
-at-or-0-spec = tie.close (tie.spec shared-slice-read-result returns returns-2)
+pub at_or_0_spec : {M : Type 1} → statement M
+at_or_0_spec = tie.close (tie.spec shared-slice-read-result returns returns-2)

@@ -31,8 +31,8 @@ cast-result c = search rules
 returns : tie.Need-returns
 returns c = gathered _ _ _ _ c.requires
 
-pub byte-of-spec : {M : Type 1} → statement M
-byte-of-spec =
+pub byte_of_spec : {M : Type 1} → statement M
+byte_of_spec =
     tie.close
     (tie.spec
     mul-word

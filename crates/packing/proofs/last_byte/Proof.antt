@@ -36,8 +36,8 @@ byte-of-requires c κs =
 returns : tie.Need-returns
 returns c = search rules
 
-pub last-byte-spec : {M : Type 1} → statement M
-last-byte-spec =
+pub last_byte_spec : {M : Type 1} → statement M
+last_byte_spec =
     tie.close
     (tie.spec
     mul-i

@@ -30,8 +30,8 @@ returns-3 : tie.Need-returns-3
 returns-3 c =
     pack-packed _ _ (search rules) _ (above-none _ (rw c.before.before.before.before.before.first_above.ensures at c.before.before.before.before.if2.false)) c.before.before.write_bytes.ensures
 
-pub pack-spec : {M : Type 1} → statement M
-pack-spec =
+pub pack_spec : {M : Type 1} → statement M
+pack_spec =
     tie.close
     (tie.spec
     bytes-for-requires

@@ -34,8 +34,8 @@ byte-of-requires c κs =
 returns : tie.Need-returns
 returns c = search rules
 
-pub whole-byte-spec : {M : Type 1} → statement M
-whole-byte-spec =
+pub whole_byte_spec : {M : Type 1} → statement M
+whole_byte_spec =
     tie.close
     (tie.spec
     mul-i

@@ -58,8 +58,8 @@ unfolding packed
 returns-2 c =
     filled-length _ _ (set-filled _ _ c.before.before.before.loop.invariant.2 (search rules) c.last_byte.ensures (search rules)) (search rules) (search rules)
 
-pub write-bytes-spec : {M : Type 1} → statement M
-write-bytes-spec =
+pub write_bytes_spec : {M : Type 1} → statement M
+write_bytes_spec =
     tie.close
     (tie.spec
     invariant-loop

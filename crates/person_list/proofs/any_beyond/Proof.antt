@@ -55,8 +55,8 @@ returns c =
     let end : c.before.loop.s ≡ length c.before.before.before.args.persons.now = omega arith in
     rw (← end) c.before.loop.invariant.3
 
-pub any-beyond-spec : {M : Type 1} → statement M
-any-beyond-spec =
+pub any_beyond_spec : {M : Type 1} → statement M
+any_beyond_spec =
     tie.close
     (tie.spec
     invariant-loop

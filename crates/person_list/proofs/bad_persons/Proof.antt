@@ -83,8 +83,8 @@ returns-8 : tie.Need-returns-8
 returns-8 c =
     judged-entries _ _ c.before.before.before.before.before.before.before.if1.false c.seek-beyond2.ensures
 
-pub bad-persons-spec : {M : Type 1} → statement M
-bad-persons-spec =
+pub bad_persons_spec : {M : Type 1} → statement M
+bad_persons_spec =
     tie.close
     (tie.spec
     returns

@@ -80,8 +80,8 @@ returns c =
     let end : c.before.loop.s ≡ a.half = omega arith in
     c.before.loop.invariant.3 ∙ rw end (some-halves (λ s. leb a.logins (person_of list s)) a.half (length list) (omega arith) (omega arith))
 
-pub beyond-in-halves-spec : {M : Type 1} → statement M
-beyond-in-halves-spec =
+pub beyond_in_halves_spec : {M : Type 1} → statement M
+beyond_in_halves_spec =
     tie.close
     (tie.spec
     invariant-loop

@@ -50,8 +50,8 @@ returns c =
     let end : c.before.loop.s ≡ 128 = omega arith in
     sym (take_all c.before.loop.s c.before.loop.list (rw i.1 (omega arith))) ∙ (i.2 ∙ rw end)
 
-pub own-numbers-spec : {M : Type 1} → statement M
-own-numbers-spec =
+pub own_numbers_spec : {M : Type 1} → statement M
+own_numbers_spec =
     tie.close
     (tie.spec
     invariant-loop

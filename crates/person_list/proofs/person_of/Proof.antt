@@ -25,5 +25,5 @@ returns-2 c =
     let a = c.before.before.args in
     sym (person-none a.persons.now a.login.0 (omega arith))
 
-pub person-of-spec : {M : Type 1} → statement M
-person-of-spec = tie.close (tie.spec cast-place mul-t6 shared-slice-read-t8 returns returns-2)
+pub person_of_spec : {M : Type 1} → statement M
+person_of_spec = tie.close (tie.spec cast-place mul-t6 shared-slice-read-t8 returns returns-2)

@@ -57,8 +57,8 @@ returns-2 c =
     let end : c.before.loop.s ≡ length c.before.before.args.persons.now = omega arith in
     rw (← end, c.before.loop.invariant.1)
 
-pub seek-beyond-spec : {M : Type 1} → statement M
-seek-beyond-spec =
+pub seek_beyond_spec : {M : Type 1} → statement M
+seek_beyond_spec =
     tie.close
     (tie.spec
     invariant-loop

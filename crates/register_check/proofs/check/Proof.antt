@@ -37,5 +37,5 @@ returns-3 c =
     (not-accepted c.before.check-labels.result c.match.keys2)
     c.before.check-labels.ensures
 
-pub check-spec : {M : Type 1} → statement M
-check-spec = tie.close (tie.spec check-labels-requires enum_told pairs-refused-requires returns returns-2 returns-3)
+pub check_spec : {M : Type 1} → statement M
+check_spec = tie.close (tie.spec check-labels-requires enum_told pairs-refused-requires returns returns-2 returns-3)

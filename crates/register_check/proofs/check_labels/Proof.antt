@@ -60,8 +60,8 @@ returns-4 : tie.Need-returns-4
 returns-4 c =
     rw c.before.clash.given.1 at c.before.before.before.first-clash.ensures ∙ sym (answer-search _ _ _ (fits c.before.before.before.before.before.before) (sym c.before.before.before.before.before.any-lone-zero.ensures ∙ c.before.before.before.before.if2.false))
 
-pub check-labels-spec : {M : Type 1} → statement M
-check-labels-spec =
+pub check_labels_spec : {M : Type 1} → statement M
+check_labels_spec =
     tie.close
     (tie.spec
     in-range-requires

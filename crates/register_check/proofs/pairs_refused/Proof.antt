@@ -18,5 +18,5 @@ returns-2 c =
     let mode : c.before.before.before.args.by-pairs ≡ false = c.if1.false in
     rw mode
 
-pub pairs-refused-spec : {M : Type 1} → statement M
-pairs-refused-spec = tie.close (tie.spec bad-pairs-requires returns returns-2)
+pub pairs_refused_spec : {M : Type 1} → statement M
+pairs_refused_spec = tie.close (tie.spec bad-pairs-requires returns returns-2)

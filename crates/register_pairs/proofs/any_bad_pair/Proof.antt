@@ -55,8 +55,8 @@ returns : tie.Need-returns invariant-loop decreases-loop
 returns c =
     let end : c.before.loop.i ≡ length c.before.before.before.before.args.firsts.now = omega arith in rw (← end) c.before.loop.invariant.1
 
-pub any-bad-pair-spec : {M : Type 1} → statement M
-any-bad-pair-spec =
+pub any_bad_pair_spec : {M : Type 1} → statement M
+any_bad_pair_spec =
     tie.close
     (tie.spec
     invariant-loop

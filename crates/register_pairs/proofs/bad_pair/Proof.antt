@@ -13,5 +13,5 @@ returns : tie.Need-returns
 returns c =
     rw c.same-client.ensures
 
-pub bad-pair-spec : {M : Type 1} → statement M
-bad-pair-spec = tie.close (tie.spec same-client-requires returns)
+pub bad_pair_spec : {M : Type 1} → statement M
+bad_pair_spec = tie.close (tie.spec same-client-requires returns)

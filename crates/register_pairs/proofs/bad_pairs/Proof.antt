@@ -26,5 +26,5 @@ returns-3 c =
     let a = c.before.before.before.before.before.args in
     rw (eq-eqb (length a.firsts.now) (length a.seconds.now) c.before.before.if1.false, le-ltb 256 (length a.firsts.now) c.before.if2.false, c.any-bad-pair.ensures)
 
-pub bad-pairs-spec : {M : Type 1} → statement M
-bad-pairs-spec = tie.close (tie.spec returns returns-2 any-bad-pair-requires returns-3)
+pub bad_pairs_spec : {M : Type 1} → statement M
+bad_pairs_spec = tie.close (tie.spec returns returns-2 any-bad-pair-requires returns-3)

@@ -13,5 +13,5 @@ returns : tie.Need-returns
 returns c =
     rw (c.before.same-client.ensures, c.same-client2.ensures)
 
-pub names-spec : {M : Type 1} → statement M
-names-spec = tie.close (tie.spec same-client-requires same-client-requires-2 returns)
+pub names_spec : {M : Type 1} → statement M
+names_spec = tie.close (tie.spec same-client-requires same-client-requires-2 returns)

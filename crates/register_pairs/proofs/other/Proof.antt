@@ -21,5 +21,5 @@ returns-2 c =
     let apart : eqb a.first.0 a.client.0 ≡ false = sym c.before.same-client.ensures ∙ c.if1.false in
     rw apart
 
-pub other-spec : {M : Type 1} → statement M
-other-spec = tie.close (tie.spec same-client-requires returns returns-2)
+pub other_spec : {M : Type 1} → statement M
+other_spec = tie.close (tie.spec same-client-requires returns returns-2)

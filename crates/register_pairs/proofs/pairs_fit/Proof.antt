@@ -8,5 +8,5 @@ returns : tie.Need-returns
 unfolding pairs_fit
 returns c = refl
 
-pub pairs-fit-spec : {M : Type 1} → statement M
-pairs-fit-spec = tie.close (tie.spec returns)
+pub pairs_fit_spec : {M : Type 1} → statement M
+pairs_fit_spec = tie.close (tie.spec returns)

@@ -54,8 +54,8 @@ returns-3 : tie.Need-returns-3
 returns-3 c =
     sym (search-none _ (fits c.before.before) (rw c.before.first-later.ensures at c.if2.false))
 
-pub first-clash-spec : {M : Type 1} → statement M
-first-clash-spec =
+pub first_clash_spec : {M : Type 1} → statement M
+first_clash_spec =
     tie.close
     (tie.spec
     lists-fit-requires

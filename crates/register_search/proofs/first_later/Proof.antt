@@ -20,6 +20,6 @@ walk-few-requires c κs = search rules
 returns-3 : tie.Need-returns-3
 returns-3 c = search rules
 
-pub first-later-spec : {M : Type 1} → statement M
-first-later-spec =
+pub first_later_spec : {M : Type 1} → statement M
+first_later_spec =
     tie.close (tie.spec returns walk-later-requires returns-2 walk-few-requires returns-3)

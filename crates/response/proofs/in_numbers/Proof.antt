@@ -163,8 +163,8 @@ returns-16 : tie.Need-returns-16
 returns-16 c =
     rw (c.refused15.ensures, c.before.enum-told9.given.1)
 
-pub in-numbers-spec : {M : Type 1} → statement M
-in-numbers-spec =
+pub in_numbers_spec : {M : Type 1} → statement M
+in_numbers_spec =
     tie.close
     (tie.spec
     enum-known-response

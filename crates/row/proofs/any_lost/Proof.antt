@@ -28,7 +28,7 @@ returns-2 : tie.Need-returns-2
 returns-2 c =
     ap some (sym (lost-none _ _ _ _ c.before.before.fits2.ensures c.before.revokes.ensures c.if1.false))
 
-pub any-lost-spec : {M : Type 1} → statement M
-any-lost-spec =
+pub any_lost_spec : {M : Type 1} → statement M
+any_lost_spec =
     tie.close
     (tie.spec fits-requires revokes-requires label-of-requires exists-requires returns returns-2)

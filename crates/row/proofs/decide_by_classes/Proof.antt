@@ -61,8 +61,8 @@ returns-5 c =
     let past = c.rule-read.ensures ∙ ruled_past-none _ _ _ (walked _ _ listed).0.0 _ _ c.before.before.before.if3.false in
     λ firsts seconds. says-wall _ _ _ _ listed refl c.before.before.before.before.before.before.if2.false _ c.before.before.before.before.before.label_of.ensures c.before.before.before.before.find.ensures past
 
-pub decide-by-classes-spec : {M : Type 1} → statement M
-decide-by-classes-spec =
+pub decide_by_classes_spec : {M : Type 1} → statement M
+decide_by_classes_spec =
     tie.close
     (tie.spec
     lists-fit-requires

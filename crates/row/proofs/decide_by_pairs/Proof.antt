@@ -57,8 +57,8 @@ returns-5 c =
     let fit = ap not (sym c.before.before.before.before.before.before.before.pairs-fit.ensures ∙ not-false _ c.before.before.before.before.before.before.if2.false) in
     says-wall _ _ _ _ listed fit c.before.before.before.before.if3.false _ c.before.before.before.label_of.ensures refl c.read-by-pairs.ensures
 
-pub decide-by-pairs-spec : {M : Type 1} → statement M
-decide-by-pairs-spec =
+pub decide_by_pairs_spec : {M : Type 1} → statement M
+decide_by_pairs_spec =
     tie.close
     (tie.spec
     lists-fit-requires

@@ -28,7 +28,7 @@ returns-2 c =
     let is = c.before.before.first-opposer.ensures ∙ opposer-beside _ s.args.matrix.now s.args.start _ (b.1 ∙ sym b.0) in
     rw (← is) (c.rule-read.ensures ∙ ruled_past-none _ _ _ b.0 _ _ c.before.if1.false)
 
-pub read-by-pairs-spec : {M : Type 1} → statement M
-read-by-pairs-spec =
+pub read_by_pairs_spec : {M : Type 1} → statement M
+read_by_pairs_spec =
     tie.close
     (tie.spec first-opposer-requires folder-no-requires returns rule-read-requires returns-2)

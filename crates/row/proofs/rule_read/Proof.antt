@@ -30,5 +30,5 @@ unfolding ruled_past judge
 returns-3 c =
     rw (same-leb _ _ c.before.before.before.before.requires.0.0, c.before.before.before.before.requires.2, ne_eqb _ _ c.if1.false)
 
-pub rule-read-spec : {M : Type 1} → statement M
-rule-read-spec = tie.close (tie.spec find-requires folder-no-requires returns returns-2 returns-3)
+pub rule_read_spec : {M : Type 1} → statement M
+rule_read_spec = tie.close (tie.spec find-requires folder-no-requires returns returns-2 returns-3)

@@ -25,5 +25,5 @@ returns-2 c =
     let e = c.before.before.before.before.before.requires.0.0 in
     λ kind w. rw (← c.before.find.ensures, same-leb _ _ e, w, le-leb _ _ (rw e at c.if1.false), writes-other kind w)
 
-pub rule-write-spec : {M : Type 1} → statement M
-rule-write-spec = tie.close (tie.spec find-requires folder-no-requires returns returns-2)
+pub rule_write_spec : {M : Type 1} → statement M
+rule_write_spec = tie.close (tie.spec find-requires folder-no-requires returns returns-2)

@@ -28,7 +28,7 @@ returns-2 c =
     let is = c.before.before.first-opposer.ensures ∙ opposer-beside _ s.args.matrix.now s.args.start _ (b.1 ∙ sym b.0) in
     λ kind w. rw (← is) (c.rule-write.ensures kind w ∙ ruled_past-none _ _ _ b.0 _ kind c.before.if1.false)
 
-pub write-by-pairs-spec : {M : Type 1} → statement M
-write-by-pairs-spec =
+pub write_by_pairs_spec : {M : Type 1} → statement M
+write_by_pairs_spec =
     tie.close
     (tie.spec first-opposer-requires folder-no-requires returns rule-write-requires returns-2)

@@ -78,8 +78,8 @@ returns-5 c =
     let mode : c.before.before.before.before.before.before.before.before.before.before.before.before.before.args.by-pairs ≡ false = c.before.if4.false in
     judged-past _ _ _ _ l.1 c.before.before.before.before.before.first-above-in.ensures (rw l.0.0 at c.before.before.before.before.if2.false) c.before.before.if3.false (rw mode (c.decide-by-classes.ensures _ _))
 
-pub decide-row-spec : {M : Type 1} → statement M
-decide-row-spec =
+pub decide_row_spec : {M : Type 1} → statement M
+decide_row_spec =
     tie.close
     (tie.spec
     lists-fit-requires

@@ -33,8 +33,8 @@ returns-4 c =
     let n = c.before.before.before.before.before.row-length.ensures in
     judged-end _ _ _ _ (rw n at c.before.before.before.before.if1.false) c.before.before.before.first-above-in.ensures (rw n at c.before.before.if2.false) c.if3.false
 
-pub decide-unfit-spec : {M : Type 1} → statement M
-decide-unfit-spec =
+pub decide_unfit_spec : {M : Type 1} → statement M
+decide_unfit_spec =
     tie.close
     (tie.spec
     row-length-requires

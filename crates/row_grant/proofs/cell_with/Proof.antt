@@ -15,5 +15,5 @@ returns : tie.Need-returns
 returns c =
     c.cell-left.ensures ∙ own-asked c.before.before.args.cell c.before.labelled.result c.before.before.args.kind
 
-pub cell-with-spec : {M : Type 1} → statement M
-cell-with-spec = tie.close (tie.spec labelled-requires cell-left-requires returns)
+pub cell_with_spec : {M : Type 1} → statement M
+cell_with_spec = tie.close (tie.spec labelled-requires cell-left-requires returns)

@@ -37,8 +37,8 @@ returns-2 c =
     let a = c.before.before.before.before.before.before.before.before.before.before.before.before.before.before.before.args in
     c.before.before.enter.ensures ∙ rw c.before.before.before.before.before.before.take_back.ensures (taken-entered _ a.matrix.now a.start _ _ (sym c.before.before.before.before.before.before.before.before.before.before.fits2.ensures ∙ not-false _ c.before.before.before.before.before.before.before.before.before.if1.false) _ c.before.before.before.before.before.before.before.before.label_of.ensures)
 
-pub grant-spec : {M : Type 1} → statement M
-grant-spec =
+pub grant_spec : {M : Type 1} → statement M
+grant_spec =
     tie.close
     (tie.spec
     fits-requires

@@ -95,8 +95,8 @@ returns c =
     let e : c.before.loop.f ≡ length (row_at a.matrix.now a.start (length a.classes.now)) = omega arith in
     c.before.loop.invariant.1.1.1 ∙ rw (e, up_to-all)
 
-pub take-back-spec : {M : Type 1} → statement M
-take-back-spec =
+pub take_back_spec : {M : Type 1} → statement M
+take_back_spec =
     tie.close
     (tie.spec
     invariant-loop

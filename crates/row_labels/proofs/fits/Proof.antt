@@ -14,5 +14,5 @@ returns : tie.Need-returns
 returns c =
     rw c.before.lists-fit.ensures (fitting-by _ _ _)
 
-pub fits-spec : {M : Type 1} → statement M
-fits-spec = tie.close (tie.spec lists-fit-requires cast-result returns)
+pub fits_spec : {M : Type 1} → statement M
+fits_spec = tie.close (tie.spec lists-fit-requires cast-result returns)

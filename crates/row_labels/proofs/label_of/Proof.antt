@@ -22,8 +22,8 @@ returns : tie.Need-returns
 returns c =
     rw (c.before.at-or-02.ensures, c.before.before.before.at-or-0.ensures) at c.labelled.ensures
 
-pub label-of-spec : {M : Type 1} → statement M
-label-of-spec =
+pub label_of_spec : {M : Type 1} → statement M
+label_of_spec =
     tie.close
     (tie.spec
     cast-at-or-0

@@ -16,5 +16,5 @@ returns c =
     rw c.remaining.ensures
     (lists-in (register_of 0 a.classes.now a.clients.now) (row_in a.matrix a.start a.classes) a.matrix.now a.start refl)
 
-pub lists-fit-spec : {M : Type 1} → statement M
-lists-fit-spec = tie.close (tie.spec remaining-requires returns)
+pub lists_fit_spec : {M : Type 1} → statement M
+lists_fit_spec = tie.close (tie.spec remaining-requires returns)

@@ -41,8 +41,8 @@ returns-2 : tie.Need-returns-2
 returns-2 c =
     listed-cleared (stored-none _) c.before.before.clear-at2.ensures (lost-none _ _ _ _ c.before.before.before.before.before.before.fits2.ensures c.before.before.before.before.before.revokes.ensures c.before.before.before.before.if1.false)
 
-pub list-fitting-spec : {M : Type 1} → statement M
-list-fitting-spec =
+pub list_fitting_spec : {M : Type 1} → statement M
+list_fitting_spec =
     tie.close
     (tie.spec
     fits-requires

@@ -34,8 +34,8 @@ returns-2 c =
     let enough = rw c.before.before.before.before.before.row-length.ensures at c.before.before.before.before.if1.false in
     rw (le-leb _ _ enough) c.before.before.list-fitting.ensures
 
-pub list-lost-spec : {M : Type 1} → statement M
-list-lost-spec =
+pub list_lost_spec : {M : Type 1} → statement M
+list_lost_spec =
     tie.close
     (tie.spec
     row-length-requires

@@ -53,5 +53,5 @@ returns-2 c =
     let past = c.before.before.before.before in
     rw c.first.ensures (first-fitted (asked past) _ _ _ (fit past) c.before.before.mark-all.ensures)
 
-pub first-marked-spec : {M : Type 1} → statement M
-first-marked-spec = tie.close (tie.spec fits-requires row-length-requires returns mark-all-requires first-requires returns-2)
+pub first_marked_spec : {M : Type 1} → statement M
+first_marked_spec = tie.close (tie.spec fits-requires row-length-requires returns mark-all-requires first-requires returns-2)

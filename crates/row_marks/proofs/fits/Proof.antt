@@ -14,5 +14,5 @@ returns : tie.Need-returns
 unfolding pairs_fit
 returns c = rw (c.pairs-fit.ensures, c.before.row-length.ensures)
 
-pub fits-spec : {M : Type 1} → statement M
-fits-spec = tie.close (tie.spec row-length-requires pairs-fit-requires returns)
+pub fits_spec : {M : Type 1} → statement M
+fits_spec = tie.close (tie.spec row-length-requires pairs-fit-requires returns)

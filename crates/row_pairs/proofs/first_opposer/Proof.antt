@@ -74,8 +74,8 @@ returns-4 c =
     let past = c.before.before.before.before.before.before.before in
     rw (c.first-among.ensures, c.before.before.list-opponents.ensures.held) (first-opponents (asked past) (its_row past) _ (fit past))
 
-pub first-opposer-spec : {M : Type 1} → statement M
-first-opposer-spec =
+pub first_opposer_spec : {M : Type 1} → statement M
+first_opposer_spec =
     tie.close
     (tie.spec
     fits-requires

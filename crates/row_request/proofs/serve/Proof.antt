@@ -96,8 +96,8 @@ returns-5 c =
     let a = c.before.before.before.before.before.before.before.before.before.args in
     refused-at (register_by 0 a.classes.now a.clients.now a.by-pairs a.firsts.now a.seconds.now) a.matrix.now a.start (request_of a.asked) (log_of a.log.now a.tail) c.before.decide-row.result (not-logged c.before.decide-row.result c.match.keys5) c.before.decide-row.ensures
 
-pub serve-spec : {M : Type 1} → statement M
-serve-spec =
+pub serve_spec : {M : Type 1} → statement M
+serve_spec =
     tie.close
     (tie.spec
     decide-row-requires

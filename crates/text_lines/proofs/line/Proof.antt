@@ -57,8 +57,8 @@ returns-2 c =
     let stored = copied.1 ∙ sets-copy (replicate 4096 0) a.word.now (omega (arith, few a.word.now a.rest.now left)) in
     rw left (line-text a.word.now a.number a.rest.now _ _ _ _ _ _ (copied.0, stored) c.before.before.before.before.put-number.ensures c.before.put_rest.ensures)
 
-pub line-spec : {M : Type 1} → statement M
-line-spec =
+pub line_spec : {M : Type 1} → statement M
+line_spec =
     tie.close
     (tie.spec
     nothing-requires

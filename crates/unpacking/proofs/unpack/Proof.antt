@@ -28,8 +28,8 @@ returns-3 : tie.Need-returns-3
 returns-3 c =
     unpack-unpacked _ _ (search rules) _ (search rules) c.before.before.write-cells.ensures
 
-pub unpack-spec : {M : Type 1} → statement M
-unpack-spec =
+pub unpack_spec : {M : Type 1} → statement M
+unpack_spec =
     tie.close
     (tie.spec
     bytes-for-requires

@@ -18,5 +18,5 @@ returns-2 : tie.Need-returns-2
 returns-2 c =
     rw (get_or-eq_default c.before.before.args.bytes.now 0 c.if1.false, zero-div)
 
-pub unused-bits-spec : {M : Type 1} → statement M
-unused-bits-spec = tie.close (tie.spec shared-slice-read-from-cell from-cell-requires returns returns-2)
+pub unused_bits_spec : {M : Type 1} → statement M
+unused_bits_spec = tie.close (tie.spec shared-slice-read-from-cell from-cell-requires returns returns-2)

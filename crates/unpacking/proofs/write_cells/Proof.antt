@@ -79,8 +79,8 @@ returns : tie.Need-returns invariant-loop decreases-loop
 returns c =
     c.before.before.write-rest.ensures ∙ ap (λ n. unpacked n c.before.before.before.before.before.before.before.before.args.bytes.now) c.before.before.before.before.before.loop.invariant.1
 
-pub write-cells-spec : {M : Type 1} → statement M
-write-cells-spec =
+pub write_cells_spec : {M : Type 1} → statement M
+write_cells_spec =
     tie.close
     (tie.spec
     invariant-loop

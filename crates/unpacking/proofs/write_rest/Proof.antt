@@ -47,8 +47,8 @@ unfolding unpacked
 returns c =
     filled-length _ _ c.before.loop.invariant.2 (search rules) refl
 
-pub write-rest-spec : {M : Type 1} → statement M
-write-rest-spec =
+pub write_rest_spec : {M : Type 1} → statement M
+write_rest_spec =
     tie.close
     (tie.spec
     invariant-loop

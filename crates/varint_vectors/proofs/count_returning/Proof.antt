@@ -36,8 +36,8 @@ loop-again c = ⊎_elim (λ w. omega arith) (λ w. omega arith) c.if1.branch
 returns : tie.Need-returns invariant-loop decreases-loop
 returns c = search rules
 
-pub count-returning-spec : {M : Type 1} → statement M
-count-returning-spec =
+pub count_returning_spec : {M : Type 1} → statement M
+count_returning_spec =
     tie.close
     (tie.spec
     invariant-loop

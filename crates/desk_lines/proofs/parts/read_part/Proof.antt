@@ -36,5 +36,5 @@ returns-2 : tie.Need-returns-2
 unfolding part_at expected ◌>>=◌
 returns-2 c = rw (space c.before) (rw add-one at c.read_number.ensures)
 
-pub read-part-spec : {M : Type 1} → statement M
-read-part-spec = tie.close (tie.spec stands-requires returns add-read-number read-number-requires returns-2)
+pub read_part_spec : {M : Type 1} → statement M
+read_part_spec = tie.close (tie.spec stands-requires returns add-read-number read-number-requires returns-2)

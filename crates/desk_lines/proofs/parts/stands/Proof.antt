@@ -20,5 +20,5 @@ returns-2 c =
     let a = c.before.args in
     rw (byte_past a.text.now a.place c.if1.false) (sym (ne_eqb 256 a.byte (λ e. omega arith)))
 
-pub stands-spec : {M : Type 1} → statement M
-stands-spec = tie.close (tie.spec shared-slice-read-result returns returns-2)
+pub stands_spec : {M : Type 1} → statement M
+stands_spec = tie.close (tie.spec shared-slice-read-result returns returns-2)

@@ -99,8 +99,8 @@ returns-3 c =
     λ f k.
     rw (c.closed2.ensures, c.before.bad-register2.ensures, ← verdict c.before.before.before f k, not-accepted c.before.before.before.check.result c.before.before.match.keys2)
 
-pub checked-spec : {M : Type 1} → statement M
-checked-spec =
+pub checked_spec : {M : Type 1} → statement M
+checked_spec =
     tie.close
     (tie.spec
     bad-register-requires

@@ -64,8 +64,8 @@ returns c =
     let a = c.before.before.before.before.before.before.args in
     partway-all a.text.now a.place a.classes.now a.clients.now _ _ _ _ c.before.before.loop.invariant (filed-on a.text.now c.before.before.loop.at ∙ rw (← c.before.read-line.ensures) (no-folder c.before.read-line.result c.before.before.loop.at (filed_at a.text.now) c.match.keys2))
 
-pub file-spec : {M : Type 1} → statement M
-file-spec =
+pub file_spec : {M : Type 1} → statement M
+file_spec =
     tie.close
     (tie.spec
     invariant-loop

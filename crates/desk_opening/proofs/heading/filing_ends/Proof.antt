@@ -16,5 +16,5 @@ returns c = rw (← c.before.before.read-line.ensures, c.enum_told.given.1)
 returns-2 : tie.Need-returns-2
 returns-2 c = rw (← c.before.read-line.ensures, no-request c.before.read-line.result c.match.keys2)
 
-pub filing-ends-spec : {M : Type 1} → statement M
-filing-ends-spec = tie.close (tie.spec read-line-requires enum_told returns returns-2)
+pub filing_ends_spec : {M : Type 1} → statement M
+filing_ends_spec = tie.close (tie.spec read-line-requires enum_told returns returns-2)

@@ -27,8 +27,8 @@ returns-2 : tie.Need-returns-2
 returns-2 c =
     rw (c.closed.ensures, c.before.bad-line.ensures, ← c.before.before.before.read-line.ensures, no-logins c.before.before.before.read-line.result c.before.before.before.before.before.args.text.now c.before.before.match.keys2)
 
-pub from-first-spec : {M : Type 1} → statement M
-from-first-spec =
+pub from_first_spec : {M : Type 1} → statement M
+from_first_spec =
     tie.close
     (tie.spec
     read-line-requires

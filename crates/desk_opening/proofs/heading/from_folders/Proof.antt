@@ -47,8 +47,8 @@ returns-2 c =
     let there = stored-end c.before.before.before.before.before.before.before.file.result _ _ (replicate 512 0) (replicate 512 0) (filed_at a.text.now a.place) c.before.before.before.before.before.before.before.file.ensures in
     rw (c.closed.ensures, c.before.bad-line.ensures, c.before.before.line-number.ensures, ← there, ← c.before.before.before.before.filing-ends.ensures, c.before.before.before.if1.false)
 
-pub from-folders-spec : {M : Type 1} → statement M
-from-folders-spec =
+pub from_folders_spec : {M : Type 1} → statement M
+from_folders_spec =
     tie.close
     (tie.spec
     slice-aggregate-file

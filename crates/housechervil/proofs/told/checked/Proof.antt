@@ -23,7 +23,7 @@ returns-2 : tie.Need-returns-2
 returns-2 c =
     rw (c.fault.ensures, c.before.before.c2.given.1)
 
-pub checked-spec : {M : Type 1} → statement M
-checked-spec =
+pub checked_spec : {M : Type 1} → statement M
+checked_spec =
     tie.close
     (tie.spec enum-known-c placed-requires enum-known-c-2 fault-requires returns returns-2)

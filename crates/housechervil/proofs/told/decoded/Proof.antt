@@ -33,8 +33,8 @@ returns-3 : tie.Need-returns-3
 returns-3 c =
     rw (c.number-at3.ensures, c.before.before.d3.given.1)
 
-pub decoded-spec : {M : Type 1} → statement M
-decoded-spec =
+pub decoded_spec : {M : Type 1} → statement M
+decoded_spec =
     tie.close
     (tie.spec
     enum-known-d

@@ -63,8 +63,8 @@ returns-6 : tie.Need-returns-6
 returns-6 c =
     rw (c.placed6.ensures, c.before.before.f6.given.1)
 
-pub fault-spec : {M : Type 1} → statement M
-fault-spec =
+pub fault_spec : {M : Type 1} → statement M
+fault_spec =
     tie.close
     (tie.spec
     enum-known-f

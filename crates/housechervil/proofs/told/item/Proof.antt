@@ -36,8 +36,8 @@ returns-3 : tie.Need-returns-3
 returns-3 c =
     rw (c.no-record2.ensures, c.before.fault.ensures, c.before.before.before.i3.given.1)
 
-pub item-spec : {M : Type 1} → statement M
-item-spec =
+pub item_spec : {M : Type 1} → statement M
+item_spec =
     tie.close
     (tie.spec
     enum-known-i

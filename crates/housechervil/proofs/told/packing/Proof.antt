@@ -33,8 +33,8 @@ returns-3 : tie.Need-returns-3
 returns-3 c =
     rw (c.placed3.ensures, c.before.enum-told2.given.1)
 
-pub packing-spec : {M : Type 1} → statement M
-packing-spec =
+pub packing_spec : {M : Type 1} → statement M
+packing_spec =
     tie.close
     (tie.spec
     enum_told

@@ -9,5 +9,5 @@ in-numbers-requires c κs = search rules
 returns : tie.Need-returns
 returns c = rw c.in-numbers.ensures
 
-pub reply-spec : {M : Type 1} → statement M
-reply-spec = tie.close (tie.spec in-numbers-requires returns)
+pub reply_spec : {M : Type 1} → statement M
+reply_spec = tie.close (tie.spec in-numbers-requires returns)

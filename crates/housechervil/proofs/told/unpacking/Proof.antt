@@ -33,8 +33,8 @@ returns-3 : tie.Need-returns-3
 returns-3 c =
     rw (c.placed3.ensures, c.before.enum-told3.given.1)
 
-pub unpacking-spec : {M : Type 1} → statement M
-unpacking-spec =
+pub unpacking_spec : {M : Type 1} → statement M
+unpacking_spec =
     tie.close
     (tie.spec
     enum_told

@@ -56,8 +56,8 @@ returns-5 : tie.Need-returns-5
 returns-5 c =
     rw (c.folders5.ensures, c.before.enum-told3.given.1)
 
-pub verdict-spec : {M : Type 1} → statement M
-verdict-spec =
+pub verdict_spec : {M : Type 1} → statement M
+verdict_spec =
     tie.close
     (tie.spec
     enum_told

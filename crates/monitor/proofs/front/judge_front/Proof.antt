@@ -77,8 +77,8 @@ returns-6 c =
     ∙ register-open r _ _ _
     (answer-accepted r (rw c.before.before.before.enum-told3.given.1 at c.before.before.before.before.before.check-labels.ensures) (sym c.before.before.pairs-refused.ensures ∙ c.before.if1.false))
 
-pub judge-front-spec : {M : Type 1} → statement M
-judge-front-spec =
+pub judge_front_spec : {M : Type 1} → statement M
+judge_front_spec =
     tie.close
     (tie.spec
     check-labels-requires

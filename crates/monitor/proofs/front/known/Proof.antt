@@ -57,8 +57,8 @@ unfolding four_to_seven front_checks judge
 returns-7 c =
     rw (eq-eqb _ _ c.before.before.before.before.before.before.before.before.before.before.if1.false, lt-leb _ _ c.before.before.before.before.before.before.before.before.if2.false, sym c.before.before.before.before.before.before.before.bad-persons.ensures ∙ c.before.before.before.before.before.before.if3.false, lt-leb _ _ c.before.before.before.before.if4.false, le-leb _ _ c.before.before.if5.false, le-leb _ _ c.if6.false)
 
-pub known-spec : {M : Type 1} → statement M
-known-spec =
+pub known_spec : {M : Type 1} → statement M
+known_spec =
     tie.close
     (tie.spec
     mul-if1

@@ -45,8 +45,8 @@ returns : tie.Need-returns invariant-loop decreases-loop
 returns c =
     ended-length _ c.before.loop.i _ (omega (arith, c.loop-test.false, c.before.before.before.requires)) c.before.loop.invariant.2
 
-pub breaks-in-spec : {M : Type 1} → statement M
-breaks-in-spec =
+pub breaks_in_spec : {M : Type 1} → statement M
+breaks_in_spec =
     tie.close
     (tie.spec
     invariant-loop

@@ -12,5 +12,5 @@ returns-2 : tie.Need-returns-2
 returns-2 c =
     sym (by_break-false _ _ _ (ne_eqb _ _ c.if1.false))
 
-pub by-break-spec : {M : Type 1} → statement M
-by-break-spec = tie.close (tie.spec returns returns-2)
+pub by_break_spec : {M : Type 1} → statement M
+by_break_spec = tie.close (tie.spec returns returns-2)

@@ -64,8 +64,8 @@ returns-2 : tie.Need-returns-2 invariant-loop decreases-loop
 returns-2 c =
     c.end-bytes.ensures ∙ c.before.before.loop.invariant.1
 
-pub end-blocks-spec : {M : Type 1} → statement M
-end-blocks-spec =
+pub end_blocks_spec : {M : Type 1} → statement M
+end_blocks_spec =
     tie.close
     (tie.spec
     invariant-loop

@@ -40,8 +40,8 @@ returns-2 : tie.Need-returns-2 invariant-loop decreases-loop
 returns-2 c =
     sym (end-length _ _ c.loop-test.false) ∙ c.before.loop.invariant.1
 
-pub end-bytes-spec : {M : Type 1} → statement M
-end-bytes-spec =
+pub end_bytes_spec : {M : Type 1} → statement M
+end_bytes_spec =
     tie.close
     (tie.spec
     invariant-loop

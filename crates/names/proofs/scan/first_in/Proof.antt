@@ -47,8 +47,8 @@ returns : tie.Need-returns invariant-loop decreases-loop
 returns c =
     rw (le_antisymm c.before.loop.invariant.0 c.loop-test.false) at c.before.loop.invariant.1
 
-pub first-in-spec : {M : Type 1} → statement M
-first-in-spec =
+pub first_in_spec : {M : Type 1} → statement M
+first_in_spec =
     tie.close
     (tie.spec
     invariant-loop

@@ -23,6 +23,6 @@ end-blocks-requires c κs = search rules
 returns-3 : tie.Need-returns-3
 returns-3 c = search rules
 
-pub line-end-spec : {M : Type 1} → statement M
-line-end-spec =
+pub line_end_spec : {M : Type 1} → statement M
+line_end_spec =
     tie.close (tie.spec returns shared-slice-read-if2 returns-2 end-blocks-requires returns-3)

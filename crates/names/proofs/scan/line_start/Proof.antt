@@ -73,8 +73,8 @@ returns-3 : tie.Need-returns-3 invariant-loop decreases-loop
 returns-3 c =
     c.past-lines2.ensures ∙ c.before.before.loop.invariant.1
 
-pub line-start-spec : {M : Type 1} → statement M
-line-start-spec =
+pub line_start_spec : {M : Type 1} → statement M
+line_start_spec =
     tie.close
     (tie.spec
     invariant-loop

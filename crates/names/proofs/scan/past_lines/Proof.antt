@@ -46,8 +46,8 @@ returns-2 c =
     let none : c.before.loop.left ≡ 0 = omega (arith, c.loop-test.false) in
     sym (past-none _ _) ∙ rw none at c.before.loop.invariant.1
 
-pub past-lines-spec : {M : Type 1} → statement M
-past-lines-spec =
+pub past_lines_spec : {M : Type 1} → statement M
+past_lines_spec =
     tie.close
     (tie.spec
     invariant-loop

@@ -38,8 +38,8 @@ returns : tie.Need-returns invariant-loop decreases-loop
 returns c =
     let end : c.before.loop.f ≡ length c.before.before.before.before.args.classes.now = omega arith in rw (← end) c.before.loop.invariant.1
 
-pub any-lone-zero-spec : {M : Type 1} → statement M
-any-lone-zero-spec =
+pub any_lone_zero_spec : {M : Type 1} → statement M
+any_lone_zero_spec =
     tie.close
     (tie.spec
     invariant-loop

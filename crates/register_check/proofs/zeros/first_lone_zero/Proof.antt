@@ -43,8 +43,8 @@ returns-2 : tie.Need-returns-2 invariant-loop decreases-loop
 returns-2 c =
     (sym (first-end _ _ _ c.before.loop.invariant.1 c.before.loop.invariant.0 c.loop-test.false), omega arith)
 
-pub first-lone-zero-spec : {M : Type 1} → statement M
-first-lone-zero-spec =
+pub first_lone_zero_spec : {M : Type 1} → statement M
+first_lone_zero_spec =
     tie.close
     (tie.spec
     invariant-loop

@@ -30,8 +30,8 @@ returns : tie.Need-returns
 returns c =
     not-beq (eqb (get_or c.before.before.args.classes.now c.before.before.args.f 0) 0) (eqb (get_or c.before.before.args.clients.now c.before.before.args.f 0) 0)
 
-pub lone-zero-spec : {M : Type 1} → statement M
-lone-zero-spec =
+pub lone_zero_spec : {M : Type 1} → statement M
+lone_zero_spec =
     tie.close
     (tie.spec
     mul-result

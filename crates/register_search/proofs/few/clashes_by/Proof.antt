@@ -54,8 +54,8 @@ any-earlier-requires c κs = search rules
 returns-4 : tie.Need-returns-4
 returns-4 c = search rules
 
-pub clashes-by-spec : {M : Type 1} → statement M
-clashes-by-spec =
+pub clashes_by_spec : {M : Type 1} → statement M
+clashes_by_spec =
     tie.close
     (tie.spec
     returns

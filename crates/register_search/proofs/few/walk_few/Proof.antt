@@ -72,8 +72,8 @@ unfolding later
 returns-2 c =
     sym (first-end _ _ _ c.before.loop.invariant.1.0 c.before.loop.invariant.0 c.loop-test.false)
 
-pub walk-few-spec : {M : Type 1} → statement M
-walk-few-spec =
+pub walk_few_spec : {M : Type 1} → statement M
+walk_few_spec =
     tie.close
     (tie.spec
     invariant-loop

@@ -44,8 +44,8 @@ unfolding earlier
 returns c =
     c.before.loop.invariant.1 ∙ ap some (those-end _ _ _ c.loop-test.false c.before.loop.invariant.0)
 
-pub any-earlier-spec : {M : Type 1} → statement M
-any-earlier-spec =
+pub any_earlier_spec : {M : Type 1} → statement M
+any_earlier_spec =
     tie.close
     (tie.spec
     invariant-loop

@@ -32,8 +32,8 @@ returns-2 : tie.Need-returns-2
 returns-2 c =
     rw (lt-ltb 0 c.before.before.before.before.before.args.past (omega arith), c.same_Class.ensures)
 
-pub clashes-spec : {M : Type 1} → statement M
-clashes-spec =
+pub clashes_spec : {M : Type 1} → statement M
+clashes_spec =
     tie.close
     (tie.spec
     returns

@@ -13,5 +13,5 @@ returns : tie.Need-returns
 returns c =
     rw (c.before.same-client.ensures, c.same_Class.ensures)
 
-pub differ-spec : {M : Type 1} → statement M
-differ-spec = tie.close (tie.spec same-client-requires same-class-requires returns)
+pub differ_spec : {M : Type 1} → statement M
+differ_spec = tie.close (tie.spec same-client-requires same-class-requires returns)

@@ -48,8 +48,8 @@ returns-2 : tie.Need-returns-2 invariant-loop decreases-loop
 returns-2 c =
     (sym (first-end _ _ _ c.before.loop.invariant.1 c.before.loop.invariant.0 c.loop-test.false), omega arith)
 
-pub first-earlier-spec : {M : Type 1} → statement M
-first-earlier-spec =
+pub first_earlier_spec : {M : Type 1} → statement M
+first_earlier_spec =
     tie.close
     (tie.spec
     invariant-loop

@@ -43,8 +43,8 @@ unfolding later
 returns-2 c =
     sym (first-end _ _ _ c.before.loop.invariant.1 c.before.loop.invariant.0 c.loop-test.false)
 
-pub search-from-spec : {M : Type 1} → statement M
-search-from-spec =
+pub search_from_spec : {M : Type 1} → statement M
+search_from_spec =
     tie.close
     (tie.spec
     invariant-loop

@@ -76,8 +76,8 @@ returns-3 : tie.Need-returns-3 invariant-loop decreases-loop
 returns-3 c =
     let z : c.before.loop.past ≡ 0 = omega arith in sym z ∙ walk_end _ _ _ _ c.before.loop.invariant c.loop-test.false
 
-pub last-of-client-spec : {M : Type 1} → statement M
-last-of-client-spec =
+pub last_of_client_spec : {M : Type 1} → statement M
+last_of_client_spec =
     tie.close
     (tie.spec
     invariant-loop

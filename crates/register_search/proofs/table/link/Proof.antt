@@ -22,5 +22,5 @@ returns-2 c =
     let e : s.past ≡ get_or s.nexts.now s.f 0 = rw c.before.requires.1.1 (omega arith) in
     sym (ap (set s.nexts.now s.f) e ∙ set-get_or s.nexts.now s.f 0)
 
-pub link-spec : {M : Type 1} → statement M
-link-spec = tie.close (tie.spec mul-nexts element-write-nexts returns returns-2)
+pub link_spec : {M : Type 1} → statement M
+link_spec = tie.close (tie.spec mul-nexts element-write-nexts returns returns-2)

@@ -52,8 +52,8 @@ returns c =
     let e : c.before.loop.f ≡ length c.before.before.before.args.clients.now = omega arith in
     rw (← e) i.1
 
-pub list-slots-spec : {M : Type 1} → statement M
-list-slots-spec =
+pub list_slots_spec : {M : Type 1} → statement M
+list_slots_spec =
     tie.close
     (tie.spec
     invariant-loop

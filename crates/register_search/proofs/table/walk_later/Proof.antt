@@ -88,8 +88,8 @@ unfolding later
 returns-3 c =
     sym (first-end _ _ _ c.before.loop.invariant.1.0 c.before.loop.invariant.0 c.loop-test.false)
 
-pub walk-later-spec : {M : Type 1} → statement M
-walk-later-spec =
+pub walk_later_spec : {M : Type 1} → statement M
+walk_later_spec =
     tie.close
     (tie.spec
     invariant-loop

@@ -19,5 +19,5 @@ any-requires c κs = search rules
 returns-2 : tie.Need-returns-2
 returns-2 c = search rules
 
-pub exists-spec : {M : Type 1} → statement M
-exists-spec = tie.close (tie.spec first-requires returns any-requires returns-2)
+pub exists_spec : {M : Type 1} → statement M
+exists_spec = tie.close (tie.spec first-requires returns any-requires returns-2)

@@ -84,8 +84,8 @@ returns : tie.Need-returns invariant-loop decreases-loop
 returns c =
     c.before.loop.invariant.1.1.1 ∙ least-end _ _ _ _ c.loop-test.false c.before.loop.invariant.0 c.before.before.before.before.before.requires.0.0
 
-pub least-spec : {M : Type 1} → statement M
-least-spec =
+pub least_spec : {M : Type 1} → statement M
+least_spec =
     tie.close
     (tie.spec
     invariant-loop

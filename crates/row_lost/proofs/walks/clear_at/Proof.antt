@@ -21,5 +21,5 @@ same_length c = search rules
 returns-2 : tie.Need-returns-2
 returns-2 c = search rules
 
-pub clear-at-spec : {M : Type 1} → statement M
-clear-at-spec = tie.close (tie.spec returns mul-list slice-write-list same_length returns-2)
+pub clear_at_spec : {M : Type 1} → statement M
+clear_at_spec = tie.close (tie.spec returns mul-list slice-write-list same_length returns-2)

@@ -23,7 +23,7 @@ returns : tie.Need-returns
 returns c =
     rw (← c.before.before.before.before.before.before.before.before.before.before.before.before.before.before.requires.0.0, ← marked-those _ _ _ c.before.before.before.before.before.before.before.mark-stakes.ensures) c.before.before.list-marked.ensures
 
-pub list-by-spec : {M : Type 1} → statement M
-list-by-spec =
+pub list_by_spec : {M : Type 1} → statement M
+list_by_spec =
     tie.close
     (tie.spec mark-stakes-requires list-marked-requires same_length same-length-2 returns)

@@ -67,8 +67,8 @@ returns c =
     let e : c.before.loop.f ≡ c.before.before.args.folders = omega arith in
     rw e at c.before.loop.invariant.3
 
-pub list-marked-spec : {M : Type 1} → statement M
-list-marked-spec =
+pub list_marked_spec : {M : Type 1} → statement M
+list_marked_spec =
     tie.close
     (tie.spec
     invariant-loop

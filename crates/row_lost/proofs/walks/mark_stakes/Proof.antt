@@ -80,8 +80,8 @@ returns c =
     let e : c.before.loop.f ≡ length c.before.before.before.before.before.before.args.classes.now = omega arith in
     rw e at c.before.loop.invariant.3
 
-pub mark-stakes-spec : {M : Type 1} → statement M
-mark-stakes-spec =
+pub mark_stakes_spec : {M : Type 1} → statement M
+mark_stakes_spec =
     tie.close
     (tie.spec
     invariant-loop

@@ -24,7 +24,7 @@ unfolding has_bit
 returns c =
     rw c.before.before.word_of.ensures.0
 
-pub bits-from-spec : {M : Type 1} → statement M
-bits-from-spec =
+pub bits_from_spec : {M : Type 1} → statement M
+bits_from_spec =
     tie.close
     (tie.spec word-of-requires mul-result element-copy-out-result cast-result shr-result returns)

@@ -56,8 +56,8 @@ returns : tie.Need-returns invariant-loop decreases-loop
 returns c =
     let end : c.before.loop.i ≡ 64 = omega arith in passed-all _ _ _ (rw end at c.before.loop.invariant.1)
 
-pub add-wanted-spec : {M : Type 1} → statement M
-add-wanted-spec =
+pub add_wanted_spec : {M : Type 1} → statement M
+add_wanted_spec =
     tie.close
     (tie.spec
     invariant-loop

@@ -62,8 +62,8 @@ returns : tie.Need-returns invariant-loop decreases-loop
 returns c =
     let end : c.before.loop.i ≡ length c.before.before.before.before.args.firsts.now = omega arith in rw (← end) c.before.loop.invariant.1
 
-pub list-others-spec : {M : Type 1} → statement M
-list-others-spec =
+pub list_others_spec : {M : Type 1} → statement M
+list_others_spec =
     tie.close
     (tie.spec
     invariant-loop

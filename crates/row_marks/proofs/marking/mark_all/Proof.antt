@@ -19,5 +19,5 @@ returns c =
     let start = listing.before.before.before.before.before.requires in
     listed-marked _ _ _ _ _ _ start.1.0 listing.list-others.ensures c.add-wanted.ensures
 
-pub mark-all-spec : {M : Type 1} → statement M
-mark-all-spec = tie.close (tie.spec list-others-requires add-wanted-requires returns)
+pub mark_all_spec : {M : Type 1} → statement M
+mark_all_spec = tie.close (tie.spec list-others-requires add-wanted-requires returns)

@@ -57,8 +57,8 @@ returns-2 c =
     let i = c.before.loop.invariant in
     sym (first-end _ _ _ i.1.1 (rw (← h.0) i.0) (rw (← h.0) c.loop-test.false))
 
-pub first-from-spec : {M : Type 1} → statement M
-first-from-spec =
+pub first_from_spec : {M : Type 1} → statement M
+first_from_spec =
     tie.close
     (tie.spec
     invariant-loop

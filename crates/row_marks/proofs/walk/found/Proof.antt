@@ -28,8 +28,8 @@ returns c =
     let h = c.before.before.before.before.before.before.requires in
     rw (c.read-and-marked.ensures, c.before.bits-from.ensures, cell-placed _ _ _ _ _ h.2 h.1)
 
-pub found-spec : {M : Type 1} → statement M
-found-spec =
+pub found_spec : {M : Type 1} → statement M
+found_spec =
     tie.close
     (tie.spec
     shared-slice-read-cell

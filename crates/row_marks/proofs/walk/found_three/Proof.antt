@@ -42,8 +42,8 @@ returns : tie.Need-returns
 returns c =
     rw (odd-or, odd-or, c.before.before.found.ensures, c.before.found2.ensures, c.found3.ensures)
 
-pub found-three-spec : {M : Type 1} → statement M
-found-three-spec =
+pub found_three_spec : {M : Type 1} → statement M
+found_three_spec =
     tie.close
     (tie.spec
     found-requires

@@ -15,5 +15,5 @@ returns c =
     let lowest : c.args.bits % 256 % 2 ≡ c.args.bits % 2 = omega arith in
     rw lowest at (odd-and (c.args.bits % 256) c.args.cell)
 
-pub read-and-marked-spec : {M : Type 1} → statement M
-read-and-marked-spec = tie.close (tie.spec cast-result returns)
+pub read_and_marked_spec : {M : Type 1} → statement M
+read_and_marked_spec = tie.close (tie.spec cast-result returns)

@@ -63,8 +63,8 @@ returns : tie.Need-returns invariant-loop decreases-loop
 returns c =
     c.before.loop.invariant.1.1 ∙ ap some (those-end _ _ _ c.loop-test.false c.before.loop.invariant.0)
 
-pub any-of-spec : {M : Type 1} → statement M
-any-of-spec =
+pub any_of_spec : {M : Type 1} → statement M
+any_of_spec =
     tie.close
     (tie.spec
     invariant-loop

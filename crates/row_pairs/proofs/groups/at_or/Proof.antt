@@ -23,5 +23,5 @@ returns-2 c =
     let a = c.before.args in
     sym (get_or-eq_default (take a.n a.list.now) _ (rw length-take (omega arith)))
 
-pub at-or-spec : {M : Type 1} → statement M
-at-or-spec = tie.close (tie.spec mul-t6 element-copy-out-t9 returns returns-2)
+pub at_or_spec : {M : Type 1} → statement M
+at_or_spec = tie.close (tie.spec mul-t6 element-copy-out-t9 returns returns-2)

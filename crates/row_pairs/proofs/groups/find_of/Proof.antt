@@ -25,5 +25,5 @@ returns-2 : tie.Need-returns-2
 returns-2 c =
     first_absent _ _ _ (sym c.before.any_of.ensures ∙ c.if1.false)
 
-pub find-of-spec : {M : Type 1} → statement M
-find-of-spec = tie.close (tie.spec any-of-requires locate-requires returns returns-2)
+pub find_of_spec : {M : Type 1} → statement M
+find_of_spec = tie.close (tie.spec any-of-requires locate-requires returns returns-2)

@@ -55,8 +55,8 @@ returns c =
     let all : length (take a.n a.list.now) ≤ l.i = rw length-take (omega arith) in
     rw (take_all l.i (take a.n a.list.now) all) at l.invariant
 
-pub first-among-spec : {M : Type 1} → statement M
-first-among-spec =
+pub first_among_spec : {M : Type 1} → statement M
+first_among_spec =
     tie.close
     (tie.spec
     invariant-loop

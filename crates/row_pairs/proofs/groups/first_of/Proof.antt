@@ -70,8 +70,8 @@ returns-2 : tie.Need-returns-2 invariant-loop decreases-loop
 returns-2 c =
     sym (first-end _ _ _ c.before.loop.invariant.1.1 c.before.loop.invariant.0 c.loop-test.false)
 
-pub first-of-spec : {M : Type 1} → statement M
-first-of-spec =
+pub first_of_spec : {M : Type 1} → statement M
+first_of_spec =
     tie.close
     (tie.spec
     invariant-loop

@@ -35,8 +35,8 @@ returns c =
     let a = start.args in
     rw (c.before.before.at-or.ensures, c.before.at-or2.ensures, c.at-or3.ensures, get_d-within a.n a.list.now a.place 0 0 start.requires.2 (omega arith))
 
-pub four-from-spec : {M : Type 1} → statement M
-four-from-spec =
+pub four_from_spec : {M : Type 1} → statement M
+four_from_spec =
     tie.close
     (tie.spec
     mul-t8

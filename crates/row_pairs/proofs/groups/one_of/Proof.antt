@@ -19,8 +19,8 @@ returns : tie.Need-returns
 returns c =
     rw (c.before.before.before.same-client.ensures, c.before.before.same-client2.ensures, c.before.same-client3.ensures, c.same-client4.ensures)
 
-pub one-of-spec : {M : Type 1} → statement M
-one-of-spec =
+pub one_of_spec : {M : Type 1} → statement M
+one_of_spec =
     tie.close
     (tie.spec
     same-client-requires

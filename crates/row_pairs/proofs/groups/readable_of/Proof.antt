@@ -10,5 +10,5 @@ returns : tie.Need-returns
 returns c =
     rw c.one_of_lem.ensures
 
-pub readable-of-spec : {M : Type 1} → statement M
-readable-of-spec = tie.close (tie.spec one-of-requires returns)
+pub readable_of_spec : {M : Type 1} → statement M
+readable_of_spec = tie.close (tie.spec one-of-requires returns)

@@ -60,8 +60,8 @@ returns : tie.Need-returns invariant-loop decreases-loop
 returns c =
     c.before.loop.invariant.2 ∙ ap length (those-end _ _ _ c.loop-test.false c.before.loop.invariant.0)
 
-pub count-named-spec : {M : Type 1} → statement M
-count-named-spec =
+pub count_named_spec : {M : Type 1} → statement M
+count_named_spec =
     tie.close
     (tie.spec
     invariant-loop

@@ -87,8 +87,8 @@ returns c =
       held = rw done at l.invariant.3;
     }
 
-pub list-opponents-spec : {M : Type 1} → statement M
-list-opponents-spec =
+pub list_opponents_spec : {M : Type 1} → statement M
+list_opponents_spec =
     tie.close
     (tie.spec
     invariant-loop
