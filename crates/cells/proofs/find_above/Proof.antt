@@ -6,19 +6,19 @@ use borrow.Author.Rules.{rules}
 use Rattle.cells.proofs.find_above.Statement.{statement}
 use Rattle.cells.proofs.find_above.Tie as tie
 
-any-above-requires : tie.Need-any-above-requires
+any-above-requires : tie.Need-any_above-requires
 any-above-requires c κs = search rules
 
-seek-above-requires : tie.Need-seek-above-requires
+seek-above-requires : tie.Need-seek_above-requires
 seek-above-requires c κs = search rules
 
-returns : tie.Need-returns
+returns : tie.Need-returns-then-any_above
 returns c = search rules
 
-returns-2 : tie.Need-returns-2
+returns-2 : tie.Need-returns
 unfolding aboves
 returns-2 c =
-    sym c.before.before.before.requires ∙ first_absent _ _ _ (sym c.before.any-above.ensures ∙ c.if1.false)
+    sym c.requires ∙ first_absent _ _ _ (sym c.any_above.ensures ∙ c.if-any_above.false)
 
 pub find_above_spec : {M : Type 1} → statement M
 find_above_spec = tie.close (tie.spec any-above-requires seek-above-requires returns returns-2)

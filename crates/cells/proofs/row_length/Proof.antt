@@ -12,7 +12,7 @@ smaller-requires : tie.Need-smaller-requires
 smaller-requires c κs = search rules
 
 returns : tie.Need-returns
-returns c = rw (length-take, length-drop, c.smaller.ensures, c.before.remaining.ensures) (omega arith)
+returns c = rw (length-take, length-drop, c.smaller.ensures, c.remaining.ensures) (omega arith)
 
 pub row_length_spec : {M : Type 1} → statement M
 row_length_spec = tie.close (tie.spec remaining-requires smaller-requires returns)
