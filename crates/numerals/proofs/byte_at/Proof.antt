@@ -5,19 +5,19 @@ use Rattle.numerals.proofs.Digits.{byte-within, byte_past}
 use Rattle.numerals.proofs.byte_at.Tie as tie
 use Rattle.numerals.proofs.byte_at.Statement.{statement}
 
-shared-slice-read-result : tie.Need-shared-slice-read-result
+shared-slice-read-result : tie.Need-bounds-text-place
 shared-slice-read-result c = search rules
 
-cast-result : tie.Need-overflow-cast-result
-cast-result c = omega (arith, c.shared-slice-known.given c.before.before.args.place)
+cast-result : tie.Need-overflow_cast-result
+cast-result c = omega (arith, c.shared_slice_known-1.given c.args.place)
 
-returns : tie.Need-returns
+returns : tie.Need-returns-then-place-text
 returns c =
-    let a = c.before.before.args in
-    byte-within a.text.now a.place c.before.if1.true
+    let a = c.args in
+    byte-within a.text.now a.place c.if-place-text.true
 
-returns-2 : tie.Need-returns-2
-returns-2 c = rw (byte_past c.before.args.text.now c.before.args.place c.if1.false)
+returns-2 : tie.Need-returns
+returns-2 c = rw (byte_past c.args.text.now c.args.place c.if-place-text.false)
 
 pub byte_at_spec : {M : Type 1} → statement M
 byte_at_spec = tie.close (tie.spec shared-slice-read-result cast-result returns returns-2)

@@ -10,43 +10,43 @@ use Rattle.numerals.proofs.read_number.Tie as tie
 use Rattle.numerals.proofs.read_number.Statement.{statement}
 
 -- past the first test the byte is a digit
-digit : (c : tie.Else1) → is_digit (byte_at c.before.before.before.before.args.text.now c.before.before.before.before.args.place) ≡ true
-digit c = rw c.before.before.byte_at.ensures at (sym c.before.is_digit.ensures ∙ not-false _ c.if1.false)
+digit : (c : tie.Else-not-is_digit) → is_digit (byte_at c.args.text.now c.args.place) ≡ true
+digit c = rw c.byte_at.ensures at (sym c.is_digit.ensures ∙ not-false _ c.if-not-is_digit.false)
 
-byte-at-requires : tie.Need-byte-at-requires
+byte-at-requires : tie.Need-byte_at-first-requires
 byte-at-requires c κs = search rules
 
-is-digit-requires : tie.Need-is-digit-requires
+is-digit-requires : tie.Need-is_digit-requires
 is-digit-requires c κs = search rules
 
-returns : tie.Need-returns
+returns : tie.Need-returns-then-not-is_digit
 returns c =
-    let a = c.before.before.before.before.args in
-    sym (number-none a.text.now a.place (rw c.before.before.byte_at.ensures at (sym c.before.is_digit.ensures ∙ not-true _ c.if1.true)))
+    let a = c.args in
+    sym (number-none a.text.now a.place (rw c.byte_at.ensures at (sym c.is_digit.ensures ∙ not-true _ c.if-not-is_digit.true)))
 
-add-byte-at : tie.Need-overflow-add-byte-at
+add-byte-at : tie.Need-overflow_add-place
 add-byte-at c =
-    let a = c.before.before.before.before.args in
+    let a = c.args in
     omega (arith, digit-inside a.text.now a.place (digit c))
 
-byte-at-requires-2 : tie.Need-byte-at-requires-2
+byte-at-requires-2 : tie.Need-byte_at-requires
 byte-at-requires-2 c κs = search rules
 
-is-digit-requires-2 : tie.Need-is-digit-requires-2
+is-digit-requires-2 : tie.Need-is_digit-requires-2
 is-digit-requires-2 c κs = search rules
 
-returns-2 : tie.Need-returns-2
+returns-2 : tie.Need-returns-then-first-is_digit
 returns-2 c =
-    let a = c.before.before.before.before.before.before.before.args in
-    sym (number-zero a.text.now a.place (digit c.before.before.before) (rw (c.before.is-digit2.ensures, c.before.before.byte-at2.ensures, c.before.before.before.before.before.byte_at.ensures) at c.if2.true))
+    let a = c.args in
+    sym (number-zero a.text.now a.place (digit c) (rw (c.is_digit-2.ensures, c.byte_at.ensures, c.byte_at.ensures) at c.if-first-is_digit.true))
 
-more-digits-requires : tie.Need-more-digits-requires
+more-digits-requires : tie.Need-more_digits-requires
 more-digits-requires c κs = search rules
 
-returns-3 : tie.Need-returns-3
+returns-3 : tie.Need-returns
 returns-3 c =
-    let a = c.before.before.before.before.before.before.before.before.args in
-    c.more-digits.ensures ∙ sym (number-on a.text.now a.place (digit c.before.before.before.before) (rw (c.before.before.is-digit2.ensures, c.before.before.before.byte-at2.ensures, c.before.before.before.before.before.before.byte_at.ensures) at c.before.if2.false))
+    let a = c.args in
+    c.more_digits.ensures ∙ sym (number-on a.text.now a.place (digit c) (rw (c.is_digit-2.ensures, c.byte_at.ensures, c.byte_at.ensures) at c.if-first-is_digit.false))
 
 pub read_number_spec : {M : Type 1} → statement M
 read_number_spec =

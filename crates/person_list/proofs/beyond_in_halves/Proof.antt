@@ -13,72 +13,72 @@ use borrow.Author.Rules.{rules}
 use Rattle.person_list.proofs.beyond_in_halves.Statement.{statement}
 use Rattle.person_list.proofs.beyond_in_halves.Tie as tie
 
-abbrev invariant-loop : tie.invariant-loop
+abbrev invariant-loop : tie.invariant-loop-s
 invariant-loop logins persons half most second gathered₀ s₀ gathered s =
     (s ≤ half)
     × (most ≡ logins - 1)
     × (second ≡ length persons - half)
     × (not (eqb gathered 0) ≡ some (those (λ i. leb logins (person_of persons i) || leb logins (person_of persons (length persons - half + i))) s))
 
-abbrev decreases-loop : tie.decreases-loop
+abbrev decreases-loop : tie.decreases-loop-s
 decreases-loop logins persons half most second gathered₀ s₀ gathered s = half - s
 
-sub-most : tie.Need-overflow-sub-most invariant-loop decreases-loop
+sub-most : tie.Need-overflow_sub-most invariant-loop decreases-loop
 sub-most c = search rules
 
-sub-second : tie.Need-overflow-sub-second invariant-loop decreases-loop
+sub-second : tie.Need-overflow_sub-second invariant-loop decreases-loop
 sub-second c = search rules
 
-loop-holds : tie.Need-loop-init invariant-loop decreases-loop
+loop-holds : tie.Need-loop-s-init invariant-loop decreases-loop
 unfolding those
 loop-holds c =
     (omega arith, refl, refl, refl)
 
-mul-excess : tie.Need-overflow-mul-excess invariant-loop decreases-loop
+mul-excess : tie.Need-offset_bounds-persons-s invariant-loop decreases-loop
 mul-excess c = search rules
 
-shared-slice-read-excess : tie.Need-shared-slice-read-excess invariant-loop decreases-loop
+shared-slice-read-excess : tie.Need-bounds-persons-s invariant-loop decreases-loop
 shared-slice-read-excess c = search rules
 
-excess-requires : tie.Need-excess-requires invariant-loop decreases-loop
+excess-requires : tie.Need-excess-front-requires invariant-loop decreases-loop
 excess-requires c κs = search rules
 
-add-excess : tie.Need-overflow-add-excess invariant-loop decreases-loop
+add-excess : tie.Need-overflow_add-second invariant-loop decreases-loop
 add-excess c = search rules
 
-mul-excess-2 : tie.Need-overflow-mul-excess-2 invariant-loop decreases-loop
+mul-excess-2 : tie.Need-offset_bounds-persons-second invariant-loop decreases-loop
 mul-excess-2 c = search rules
 
-shared-slice-read-excess-2 : tie.Need-shared-slice-read-excess-2 invariant-loop decreases-loop
+shared-slice-read-excess-2 : tie.Need-bounds-persons-second invariant-loop decreases-loop
 shared-slice-read-excess-2 c = search rules
 
-excess-requires-2 : tie.Need-excess-requires-2 invariant-loop decreases-loop
+excess-requires-2 : tie.Need-excess-back-requires invariant-loop decreases-loop
 excess-requires-2 c κs = search rules
 
-add-s : tie.Need-overflow-add-s invariant-loop decreases-loop
+add-s : tie.Need-overflow_add-s invariant-loop decreases-loop
 add-s c = search rules
 
-loop-less : tie.Need-loop-smaller invariant-loop decreases-loop
+loop-less : tie.Need-loop-s-smaller invariant-loop decreases-loop
 loop-less c = search rules
 
-loop-again : tie.Need-loop-preserved invariant-loop decreases-loop
+loop-again : tie.Need-loop-s-preserved invariant-loop decreases-loop
 loop-again c =
-    let a = c.before.before.before.before.before.before.before.args in
-    let i = c.before.before.before.before.before.loop.invariant in
+    let a = c.args in
+    let i = c.loop-s.invariant in
     let list = a.persons.now in
-    let s = c.before.before.before.before.before.loop.s in
+    let s = c.loop-s.s in
     let second = length list - a.half in
     let front = person-entry list s (omega arith) in
     let back = person-entry list (second + s) (omega arith) in
-    let both = gathered-both c.before.before.before.before.before.loop.gathered (get_or list s 0) (get_or list (second + s) 0) a.logins (omega arith) in
-    (omega arith, i.1, i.2, rw (some-those-suc, front, back, ← i.3, c.excess2.ensures, c.before.before.excess.ensures, i.1, i.2) both)
+    let both = gathered-both c.loop-s.gathered (get_or list s 0) (get_or list (second + s) 0) a.logins (omega arith) in
+    (omega arith, i.1, i.2, rw (some-those-suc, front, back, ← i.3, c.excess-back.ensures, c.excess-front.ensures, i.1, i.2) both)
 
 returns : tie.Need-returns invariant-loop decreases-loop
 returns c =
-    let a = c.before.before.before.args in
+    let a = c.args in
     let list = a.persons.now in
-    let end : c.before.loop.s ≡ a.half = omega arith in
-    c.before.loop.invariant.3 ∙ rw end (some-halves (λ s. leb a.logins (person_of list s)) a.half (length list) (omega arith) (omega arith))
+    let end : c.loop-s.s ≡ a.half = omega arith in
+    c.loop-s.invariant.3 ∙ rw end (some-halves (λ s. leb a.logins (person_of list s)) a.half (length list) (omega arith) (omega arith))
 
 pub beyond_in_halves_spec : {M : Type 1} → statement M
 beyond_in_halves_spec =

@@ -12,43 +12,43 @@ use borrow.Author.Rules.{rules}
 use Rattle.person_list.proofs.own_numbers.Statement.{statement}
 use Rattle.person_list.proofs.own_numbers.Tie as tie
 
-abbrev invariant-loop : tie.invariant-loop
+abbrev invariant-loop : tie.invariant-loop-s
 invariant-loop list₀ s₀ list s = (s ≤ 128) × (length list ≡ 128) × (take s list ≡ own_numbers s)
 
-abbrev decreases-loop : tie.decreases-loop
+abbrev decreases-loop : tie.decreases-loop-s
 decreases-loop list₀ s₀ list s = 128 - s
 
-loop-holds : tie.Need-loop-init invariant-loop decreases-loop
+loop-holds : tie.Need-loop-s-init invariant-loop decreases-loop
 unfolding own_numbers those
 loop-holds c =
     (omega arith, refl, refl)
 
-cast-list : tie.Need-overflow-cast-list invariant-loop decreases-loop
+cast-list : tie.Need-overflow_cast-list invariant-loop decreases-loop
 cast-list c = search rules
 
-mul-list : tie.Need-overflow-mul-list invariant-loop decreases-loop
+mul-list : tie.Need-offset_bounds-list-s invariant-loop decreases-loop
 mul-list c = search rules
 
-array-write-list : tie.Need-array-write-list invariant-loop decreases-loop
+array-write-list : tie.Need-bounds-list-s invariant-loop decreases-loop
 array-write-list c = search rules
 
-add-s : tie.Need-overflow-add-s invariant-loop decreases-loop
+add-s : tie.Need-overflow_add-s invariant-loop decreases-loop
 add-s c = search rules
 
-loop-less : tie.Need-loop-smaller invariant-loop decreases-loop
+loop-less : tie.Need-loop-s-smaller invariant-loop decreases-loop
 loop-less c = search rules
 
-loop-again : tie.Need-loop-preserved invariant-loop decreases-loop
+loop-again : tie.Need-loop-s-preserved invariant-loop decreases-loop
 unfolding own_numbers
 loop-again c =
-    let i = c.before.loop.invariant in
-    (omega arith, rw length-set i.1, those-list (λ s. true) c.before.loop.list c.before.loop.s c.before.loop.s (rw i.1 (omega arith)) i.2)
+    let i = c.loop-s.invariant in
+    (omega arith, rw length-set i.1, those-list (λ s. true) c.loop-s.list c.loop-s.s c.loop-s.s (rw i.1 (omega arith)) i.2)
 
 returns : tie.Need-returns invariant-loop decreases-loop
 returns c =
-    let i = c.before.loop.invariant in
-    let end : c.before.loop.s ≡ 128 = omega arith in
-    sym (take_all c.before.loop.s c.before.loop.list (rw i.1 (omega arith))) ∙ (i.2 ∙ rw end)
+    let i = c.loop-s.invariant in
+    let end : c.loop-s.s ≡ 128 = omega arith in
+    sym (take_all c.loop-s.s c.loop-s.list (rw i.1 (omega arith))) ∙ (i.2 ∙ rw end)
 
 pub own_numbers_spec : {M : Type 1} → statement M
 own_numbers_spec =

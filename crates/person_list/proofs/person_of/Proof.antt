@@ -6,23 +6,23 @@ use borrow.Author.Rules.{rules}
 use Rattle.person_list.proofs.person_of.Statement.{statement}
 use Rattle.person_list.proofs.person_of.Tie as tie
 
-cast-place : tie.Need-overflow-cast-place
+cast-place : tie.Need-overflow_cast-place
 cast-place c = search rules
 
-mul-t6 : tie.Need-overflow-mul-t6
+mul-t6 : tie.Need-offset_bounds-persons-place
 mul-t6 c = search rules
 
-shared-slice-read-t8 : tie.Need-shared-slice-read-t8
+shared-slice-read-t8 : tie.Need-bounds-persons-place
 shared-slice-read-t8 c = search rules
 
-returns : tie.Need-returns
+returns : tie.Need-returns-then-place-persons
 returns c =
-    let a = c.before.before.before.args in
+    let a = c.args in
     sym (person-entry a.persons.now a.login.0 (omega arith))
 
-returns-2 : tie.Need-returns-2
+returns-2 : tie.Need-returns
 returns-2 c =
-    let a = c.before.before.args in
+    let a = c.args in
     sym (person-none a.persons.now a.login.0 (omega arith))
 
 pub person_of_spec : {M : Type 1} → statement M
