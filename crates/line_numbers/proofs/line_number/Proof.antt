@@ -32,25 +32,25 @@ unfolding ended
 loop-holds c = search rules
 
 shared-slice-read-one-if : tie.Need-bounds-text-i invariant-loop decreases-loop
-shared-slice-read-one-if c = (turn c).1
+shared-slice-read-one-if c = (turn c.before).1
 
 one-if-requires : tie.Need-one_if-n-requires invariant-loop decreases-loop
 one-if-requires c κs = search rules
 
 add-n : tie.Need-overflow_add-n invariant-loop decreases-loop
-add-n c = omega (arith, turn c)
+add-n c = omega (arith, turn c.before.before)
 
 add-i : tie.Need-overflow_add-i invariant-loop decreases-loop
-add-i c = omega (arith, turn c)
+add-i c = omega (arith, turn c.before.before)
 
 loop-less : tie.Need-loop-i-smaller invariant-loop decreases-loop
-loop-less c = omega (arith, turn c)
+loop-less c = omega (arith, turn c.before.before)
 
 loop-again : tie.Need-loop-i-preserved invariant-loop decreases-loop
 loop-again c =
     let text = c.args.text.now in
     let i = c.loop-i.i in
-    let inside = turn c in
+    let inside = turn c.before.before in
     (omega arith, (omega arith, rw (add-one i, ended-more text i inside.1) (omega arith)))
 
 returns : tie.Need-returns invariant-loop decreases-loop

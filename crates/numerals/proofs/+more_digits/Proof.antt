@@ -33,62 +33,62 @@ abbrev calls : ℕ → lts.Claims
 calls t = (byte_at.Asked, byte_at.Learnt, is_digit.Asked, is_digit.Learnt, below t, more-digits.Post)
 
 -- past the first test the byte is a digit
-digit : (t : ℕ) (c : lts.Else1 (calls t) (given t) more-digits.Post) → is_digit (byte_at c.before.before.before.before.args.text.now c.before.before.before.before.args.at) ≡ true
-digit t c = rw c.before.before.byte_at.ensures at (sym c.before.is_digit.ensures ∙ not-false _ c.if1.false)
+digit : (t : ℕ) (c : lts.Else-not-is_digit (calls t) (given t) more-digits.Post) → is_digit (byte_at c.args.text.now c.args.at) ≡ true
+digit t c = rw c.byte_at-b.ensures at (sym c.is_digit.ensures ∙ c.if-not-is_digit.false)
 
-byte-at-requires : (t : ℕ) → lts.Need-byte-at-requires (calls t) (given t) more-digits.Post
+byte-at-requires : (t : ℕ) → lts.Need-byte_at-b-requires (calls t) (given t) more-digits.Post
 byte-at-requires t c κs = search rules
 
-is-digit-requires : (t : ℕ) → lts.Need-is-digit-requires (calls t) (given t) more-digits.Post
+is-digit-requires : (t : ℕ) → lts.Need-is_digit-requires (calls t) (given t) more-digits.Post
 is-digit-requires t c κs = search rules
 
-cast-t9 : (t : ℕ) → lts.Need-overflow-cast-t9 (calls t) (given t) more-digits.Post
+cast-t9 : (t : ℕ) → lts.Need-overflow_cast-result (calls t) (given t) more-digits.Post
 cast-t9 t c = search rules
 
-returns : (t : ℕ) → lts.Need-returns (calls t) (given t) more-digits.Post
+returns : (t : ℕ) → lts.Need-returns-then-not-is_digit (calls t) (given t) more-digits.Post
 returns t c =
-    let a = c.before.before.before.before.args in
-    sym (more-none a.text.now a.at a.n a.value (rw c.before.before.byte_at.ensures at (sym c.before.is_digit.ensures ∙ not-true _ c.if1.true)) (omega arith) (omega arith))
+    let a = c.args in
+    sym (more-none a.text.now a.at a.n a.value (rw c.byte_at-b.ensures at (sym c.is_digit.ensures ∙ c.if-not-is_digit.true)) (omega arith) (omega arith))
 
-mul-longer : (t : ℕ) → lts.Need-overflow-mul-longer (calls t) (given t) more-digits.Post
+mul-longer : (t : ℕ) → lts.Need-overflow_mul-longer (calls t) (given t) more-digits.Post
 mul-longer t c = search rules
 
-cast-longer : (t : ℕ) → lts.Need-overflow-cast-longer (calls t) (given t) more-digits.Post
+cast-longer : (t : ℕ) → lts.Need-overflow_cast-longer (calls t) (given t) more-digits.Post
 cast-longer t c = search rules
 
-sub-longer : (t : ℕ) → lts.Need-overflow-sub-longer (calls t) (given t) more-digits.Post
+sub-longer : (t : ℕ) → lts.Need-overflow_sub-longer (calls t) (given t) more-digits.Post
 sub-longer t c =
-    let a = c.before.before.before.before.args in
+    let a = c.args in
     omega (arith, digit-range (byte_at a.text.now a.at) (digit t c))
 
-add-longer : (t : ℕ) → lts.Need-overflow-add-longer (calls t) (given t) more-digits.Post
+add-longer : (t : ℕ) → lts.Need-overflow_add-longer (calls t) (given t) more-digits.Post
 add-longer t c = search rules
 
-returns-2 : (t : ℕ) → lts.Need-returns-2 (calls t) (given t) more-digits.Post
+returns-2 : (t : ℕ) → lts.Need-returns-then-n-longer (calls t) (given t) more-digits.Post
 returns-2 t c =
-    let a = c.before.before.before.before.before.args in
-    sym (more-ill a.text.now a.at a.n a.value (digit t c.before) (rw c.before.before.before.byte_at.ensures at c.if2.true))
+    let a = c.args in
+    sym (more-ill a.text.now a.at a.n a.value (digit t c.before) (rw c.byte_at-b.ensures at c.if-n-longer.true))
 
-add-more-digits : (t : ℕ) → lts.Need-overflow-add-more-digits (calls t) (given t) more-digits.Post
+add-more-digits : (t : ℕ) → lts.Need-overflow_add-at (calls t) (given t) more-digits.Post
 add-more-digits t c =
-    let a = c.before.before.before.before.before.args in
+    let a = c.args in
     omega (arith, digit-inside a.text.now a.at (digit t c.before))
 
-add-more-digits-2 : (t : ℕ) → lts.Need-overflow-add-more-digits-2 (calls t) (given t) more-digits.Post
+add-more-digits-2 : (t : ℕ) → lts.Need-overflow_add-n (calls t) (given t) more-digits.Post
 add-more-digits-2 t c = search rules
 
-more-digits-requires : (t : ℕ) → lts.Need-more-digits-requires (calls t) (given t) more-digits.Post
+more-digits-requires : (t : ℕ) → lts.Need-more_digits-requires (calls t) (given t) more-digits.Post
 more-digits-requires t c κs =
-    let a = c.before.before.before.before.before.args in
-    let longer = a.value * 10 + (c.before.before.before.byte_at.result - 48) in
-    let tests = neither (eqb a.n 5) (ltb 65535 longer) c.if2.false in
+    let a = c.args in
+    let longer = a.value * 10 + (c.byte_at-b.result - 48) in
+    let tests = neither (eqb a.n 5) (ltb 65535 longer) c.if-n-longer.false in
     let more = eqb-false a.n 5 tests.0 in
     (omega arith, (omega arith, ltb-false 65535 longer tests.1))
 
-returns-3 : (t : ℕ) → lts.Need-returns-3 (calls t) (given t) more-digits.Post
+returns-3 : (t : ℕ) → lts.Need-returns (calls t) (given t) more-digits.Post
 returns-3 t c =
-    let a = c.before.before.before.before.before.before.args in
-    c.more-digits.ensures ∙ rw c.before.before.before.before.byte_at.ensures (sym (more-on a.text.now a.at a.n a.value (digit t c.before.before)))
+    let a = c.args in
+    c.more_digits.ensures ∙ rw c.byte_at-b.ensures (sym (more-on a.text.now a.at a.n a.value (digit t c.before.before)))
 
 pub +more_digits_spec : {M : Type 1} → statement M
 +more_digits_spec =
