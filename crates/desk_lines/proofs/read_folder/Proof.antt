@@ -5,37 +5,37 @@ use Rattle.desk_lines.specs.Lines.{pair_at}
 use Rattle.desk_lines.proofs.read_folder.Tie as tie
 use Rattle.desk_lines.proofs.read_folder.Statement.{statement}
 
-read-part-requires : tie.Need-read-part-requires
+read-part-requires : tie.Need-read_part-requires
 read-part-requires c κs = search rules
 
-enum_told : tie.Need-enum-told
+enum_told : tie.Need-enum_told-1
 enum_told c = search rules
 
-enum-known-class : tie.Need-enum-known-class
+enum-known-class : tie.Need-enum_known-class
 enum-known-class c = search rules
 
-read-last-requires : tie.Need-read-last-requires
+read-last-requires : tie.Need-read_last-requires
 read-last-requires c κs = search rules
 
-enum-told-2 : tie.Need-enum-told-2
+enum-told-2 : tie.Need-enum_told-in-Ill-read_last
 enum-told-2 c = search rules
 
-enum-known-client : tie.Need-enum-known-client
+enum-known-client : tie.Need-enum_known-client
 enum-known-client c = search rules
 
-returns : tie.Need-returns
+returns : tie.Need-returns-in-Ill
 unfolding pair_at ◌>>=◌
-returns c = rw (← c.before.before.read-part.ensures, c.enum_told.given.1)
+returns c = rw (← c.read_part.ensures, c.in-Ill.is)
 
-returns-2 : tie.Need-returns-2
+returns-2 : tie.Need-returns-in-Ill-read_last
 unfolding pair_at ◌>>=◌
 returns-2 c =
-    rw (← c.before.before.before.before.before.before.read-part.ensures, c.before.before.before.before.class.given.1, ← c.before.before.read-last.ensures, c.enum-told2.given.1)
+    rw (← c.read_part.ensures, c.in-Read.is, ← c.read_last.ensures, c.in-Ill-read_last.is)
 
-returns-3 : tie.Need-returns-3
+returns-3 : tie.Need-returns-in-Read-read_last
 unfolding pair_at ◌>>=◌
 returns-3 c =
-    rw (← c.before.before.before.before.before.before.before.read-part.ensures, c.before.before.before.before.before.class.given.1, ← c.before.before.before.read-last.ensures, c.before.client.given.1)
+    rw (← c.read_part.ensures, c.in-Read.is, ← c.read_last.ensures, c.in-Read-read_last.is)
 
 pub read_folder_spec : {M : Type 1} → statement M
 read_folder_spec =

@@ -12,56 +12,56 @@ use Rattle.desk_lines.proofs.read_line.Tie as tie
 use Rattle.desk_lines.proofs.read_line.Statement.{statement}
 
 -- past the first test there is a letter
-letter : (c : tie.Else1) → get_or c.before.before.args.text.now c.before.before.args.place 0
-    ≡ byte_at c.before.before.args.text.now c.before.before.args.place
-letter c = let a = c.before.before.args in byte-within a.text.now a.place c.if1.false
+letter : (c : tie.Else-text-place) → get_or c.args.text.now c.args.place 0
+    ≡ byte_at c.args.text.now c.args.place
+letter c = let a = c.args in byte-within a.text.now a.place c.if-text-place.false
 
-returns : tie.Need-returns
+returns : tie.Need-returns-then-text-place
 unfolding line_at
-returns c = let a = c.before.before.args in rw (byte_past a.text.now a.place c.if1.true)
+returns c = let a = c.args in rw (byte_past a.text.now a.place c.if-text-place.true)
 
-shared-slice-read-letter : tie.Need-shared-slice-read-letter
+shared-slice-read-letter : tie.Need-bounds-text-place
 shared-slice-read-letter c = search rules
 
-add-read-logins : tie.Need-overflow-add-read-logins
+add-read-logins : tie.Need-overflow_add-place
 add-read-logins c = search rules
 
-read-logins-requires : tie.Need-read-logins-requires
+read-logins-requires : tie.Need-read_logins-requires
 read-logins-requires c κs = search rules
 
-returns-2 : tie.Need-returns-2
+returns-2 : tie.Need-returns-then-letter-eq80
 unfolding line_at
-returns-2 c = rw (← letter c.before.before.before, c.before.if2.true, c.read-logins.ensures, add-one)
+returns-2 c = rw (← letter c.before.before.before, c.if-letter-eq80.true, c.read_logins.ensures, add-one)
 
-add-read-folder : tie.Need-overflow-add-read-folder
+add-read-folder : tie.Need-overflow_add-place-then-letter-eq70
 add-read-folder c = search rules
 
-read-folder-requires : tie.Need-read-folder-requires
+read-folder-requires : tie.Need-read_folder-requires
 read-folder-requires c κs = search rules
 
-returns-3 : tie.Need-returns-3
+returns-3 : tie.Need-returns-then-letter-eq70
 unfolding line_at
 returns-3 c =
-    rw (← letter c.before.before.before.before, c.before.if3.true, c.read-folder.ensures, add-one)
+    rw (← letter c.before.before.before.before, c.if-letter-eq70.true, c.read_folder.ensures, add-one)
 
-kind-of-requires : tie.Need-kind-of-requires
+kind-of-requires : tie.Need-kind_of-kind-requires
 kind-of-requires c κs = search rules
 
-returns-4 : tie.Need-returns-4
+returns-4 : tie.Need-returns-then-kind-eq0
 unfolding line_at
 returns-4 c =
-    rw (← letter c.before.before.before.before.before, ne_eqb _ _ c.before.before.before.if2.false, ne_eqb _ _ c.before.before.if3.false, ← c.before.kind-of.ensures, c.if4.true)
+    rw (← letter c.before.before.before.before.before, ne_eqb _ _ c.if-letter-eq80.false, ne_eqb _ _ c.if-letter-eq70.false, ← c.kind_of-kind.ensures, c.if-kind-eq0.true)
 
-add-read-request : tie.Need-overflow-add-read-request
+add-read-request : tie.Need-overflow_add-place-2
 add-read-request c = search rules
 
-read-request-requires : tie.Need-read-request-requires
+read-request-requires : tie.Need-read_request-requires
 read-request-requires c κs = search rules
 
-returns-5 : tie.Need-returns-5
+returns-5 : tie.Need-returns
 unfolding line_at
 returns-5 c =
-    rw (← letter c.before.before.before.before.before.before, ne_eqb _ _ c.before.before.before.before.if2.false, ne_eqb _ _ c.before.before.before.if3.false, ← c.before.before.kind-of.ensures, lt-ltb 0 c.before.before.kind-of.result (omega arith), c.read-request.ensures, add-one)
+    rw (← letter c.before.before.before.before.before.before, ne_eqb _ _ c.if-letter-eq80.false, ne_eqb _ _ c.if-letter-eq70.false, ← c.kind_of-kind.ensures, lt-ltb 0 c.kind_of-kind.result (omega arith), c.read_request.ensures, add-one)
 
 pub read_line_spec : {M : Type 1} → statement M
 read_line_spec =

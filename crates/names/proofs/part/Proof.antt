@@ -4,10 +4,10 @@ use borrow.Author.Rules.{rules}
 use Rattle.names.proofs.part.Statement.{statement}
 use Rattle.names.proofs.part.Tie as tie
 
-add-end : tie.Need-overflow-add-end
+add-end : tie.Need-overflow_add-end
 add-end c = search rules
 
-sub-result : tie.Need-overflow-sub-result
+sub-result : tie.Need-slice_bounds-result-count
 sub-result c = search rules
 
 part-result-start : tie.Need-slice-bounds-result-start
@@ -18,7 +18,7 @@ part-result-end c = search rules
 
 returns : tie.Need-returns
 returns c =
-    rw (add-sub_cancel_left, add_comm c.before.before.args.span.place c.before.before.args.text.ptr.1)
+    rw (add-sub_cancel_left, add_comm c.args.span.place c.args.text.ptr.1)
 
 pub part_spec : {M : Type 1} → statement M
 part_spec = tie.close (tie.spec add-end sub-result part-result-start part-result-end returns)

@@ -4,28 +4,28 @@ use Rattle.packing.proofs.Cells.{gathered}
 use Rattle.packing.proofs.byte_of.Statement.{statement}
 use Rattle.packing.proofs.byte_of.Tie as tie
 
-mul-word : tie.Need-overflow-mul-word
+mul-word : tie.Need-overflow_mul-word
 mul-word c = search rules
 
-add-word : tie.Need-overflow-add-word
+add-word : tie.Need-overflow_add-word
 add-word c = search rules
 
-mul-word-2 : tie.Need-overflow-mul-word-2
+mul-word-2 : tie.Need-overflow_mul-word-2
 mul-word-2 c = search rules
 
-add-word-2 : tie.Need-overflow-add-word-2
+add-word-2 : tie.Need-overflow_add-word-2
 add-word-2 c = search rules
 
-mul-word-3 : tie.Need-overflow-mul-word-3
+mul-word-3 : tie.Need-overflow_mul-word-3
 mul-word-3 c = search rules
 
-add-word-3 : tie.Need-overflow-add-word-3
+add-word-3 : tie.Need-overflow_add-word-3
 add-word-3 c = search rules
 
-mul-result : tie.Need-overflow-mul-result
+mul-result : tie.Need-overflow_mul-result
 mul-result c = search rules
 
-cast-result : tie.Need-overflow-cast-result
+cast-result : tie.Need-overflow_cast-result
 cast-result c = search rules
 
 returns : tie.Need-returns

@@ -15,45 +15,45 @@ use Rattle.register_pairs.proofs.any_bad_pair.Reads as reads
 use Rattle.register_pairs.proofs.any_bad_pair.Lts as lts
 use Rattle.register_pairs.proofs.bad_pair.Reads as bad-pair-reads
 
-abbrev invariant-loop : tie.invariant-loop
+abbrev invariant-loop : tie.invariant-loop-i
 invariant-loop firsts seconds any₀ i₀ any i = (i ≤ length firsts) × (any ≡ some (those (bad_pair (register_by 0 [] [] true firsts seconds)) i))
 
-abbrev decreases-loop : tie.decreases-loop
+abbrev decreases-loop : tie.decreases-loop-i
 decreases-loop firsts seconds any₀ i₀ any i = length firsts - i
 
-loop-holds : tie.Need-loop-init invariant-loop decreases-loop
+loop-holds : tie.Need-loop-i-init invariant-loop decreases-loop
 unfolding those
 loop-holds c =
     (omega arith, refl)
 
-mul-first : tie.Need-overflow-mul-first invariant-loop decreases-loop
+mul-first : tie.Need-offset_bounds-firsts-i invariant-loop decreases-loop
 mul-first c = search rules
 
-shared-slice-read-first : tie.Need-shared-slice-read-first invariant-loop decreases-loop
+shared-slice-read-first : tie.Need-bounds-firsts-i invariant-loop decreases-loop
 shared-slice-read-first c = search rules
 
-mul-second : tie.Need-overflow-mul-second invariant-loop decreases-loop
+mul-second : tie.Need-offset_bounds-seconds-i invariant-loop decreases-loop
 mul-second c = search rules
 
-shared-slice-read-second : tie.Need-shared-slice-read-second invariant-loop decreases-loop
+shared-slice-read-second : tie.Need-bounds-seconds-i invariant-loop decreases-loop
 shared-slice-read-second c = search rules
 
-bad-pair-requires : tie.Need-bad-pair-requires invariant-loop decreases-loop
+bad-pair-requires : tie.Need-bad_pair-any-requires invariant-loop decreases-loop
 bad-pair-requires c κs = search rules
 
-add-i : tie.Need-overflow-add-i invariant-loop decreases-loop
+add-i : tie.Need-overflow_add-i invariant-loop decreases-loop
 add-i c = search rules
 
-loop-less : tie.Need-loop-smaller invariant-loop decreases-loop
+loop-less : tie.Need-loop-i-smaller invariant-loop decreases-loop
 loop-less c = search rules
 
-loop-again : tie.Need-loop-preserved invariant-loop decreases-loop
+loop-again : tie.Need-loop-i-preserved invariant-loop decreases-loop
 loop-again c =
-    (omega arith, rw (some-those-suc, c.bad-pair.ensures, c.before.before.before.before.loop.invariant.1))
+    (omega arith, rw (some-those-suc, c.bad_pair-any.ensures, c.loop-i.invariant.1))
 
 returns : tie.Need-returns invariant-loop decreases-loop
 returns c =
-    let end : c.before.loop.i ≡ length c.before.before.before.before.args.firsts.now = omega arith in rw (← end) c.before.loop.invariant.1
+    let end : c.loop-i.i ≡ length c.args.firsts.now = omega arith in rw (← end) c.loop-i.invariant.1
 
 pub any_bad_pair_spec : {M : Type 1} → statement M
 any_bad_pair_spec =

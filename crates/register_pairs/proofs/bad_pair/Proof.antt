@@ -6,12 +6,12 @@ use Rattle.register_pairs.proofs.bad_pair.Reads as reads
 use Rattle.register_pairs.proofs.bad_pair.Lts as lts
 use Rattle.ids.proofs.same_client.Reads as same-client-reads
 
-same-client-requires : tie.Need-same-client-requires
+same-client-requires : tie.Need-same_client-requires
 same-client-requires c κs = search rules
 
 returns : tie.Need-returns
 returns c =
-    rw c.same-client.ensures
+    rw c.same_client.ensures
 
 pub bad_pair_spec : {M : Type 1} → statement M
 bad_pair_spec = tie.close (tie.spec same-client-requires returns)

@@ -5,26 +5,26 @@ use Rattle.register.specs.Register.{bad_pairs}
 use Rattle.register_pairs.proofs.bad_pairs.Statement.{statement}
 use Rattle.register_pairs.proofs.bad_pairs.Tie as tie
 
-returns : tie.Need-returns
+returns : tie.Need-returns-then-firsts-seconds
 unfolding bad_pairs
 returns c =
-    let a = c.before.before.before.args in
-    rw (ne_eqb (length a.firsts.now) (length a.seconds.now) c.if1.true)
+    let a = c.args in
+    rw (ne_eqb (length a.firsts.now) (length a.seconds.now) c.if-firsts-seconds.true)
 
-returns-2 : tie.Need-returns-2
+returns-2 : tie.Need-returns-then-firsts-gt256
 unfolding bad_pairs
 returns-2 c =
-    let a = c.before.before.before.before.args in
-    rw (eq-eqb (length a.firsts.now) (length a.seconds.now) c.before.if1.false, lt-ltb 256 (length a.firsts.now) c.if2.true)
+    let a = c.args in
+    rw (eq-eqb (length a.firsts.now) (length a.seconds.now) c.if-firsts-seconds.false, lt-ltb 256 (length a.firsts.now) c.if-firsts-gt256.true)
 
-any-bad-pair-requires : tie.Need-any-bad-pair-requires
-any-bad-pair-requires c κs = c.before.if1.false
+any-bad-pair-requires : tie.Need-any_bad_pair-requires
+any-bad-pair-requires c κs = c.if-firsts-seconds.false
 
-returns-3 : tie.Need-returns-3
+returns-3 : tie.Need-returns
 unfolding bad_pairs
 returns-3 c =
-    let a = c.before.before.before.before.before.args in
-    rw (eq-eqb (length a.firsts.now) (length a.seconds.now) c.before.before.if1.false, le-ltb 256 (length a.firsts.now) c.before.if2.false, c.any-bad-pair.ensures)
+    let a = c.args in
+    rw (eq-eqb (length a.firsts.now) (length a.seconds.now) c.if-firsts-seconds.false, le-ltb 256 (length a.firsts.now) c.if-firsts-gt256.false, c.any_bad_pair.ensures)
 
 pub bad_pairs_spec : {M : Type 1} → statement M
 bad_pairs_spec = tie.close (tie.spec returns returns-2 any-bad-pair-requires returns-3)

@@ -6,19 +6,19 @@ use borrow.Author.Rules.{rules}
 use Rattle.register_pairs.proofs.other.Statement.{statement}
 use Rattle.register_pairs.proofs.other.Tie as tie
 
-same-client-requires : tie.Need-same-client-requires
+same-client-requires : tie.Need-same_client-requires
 same-client-requires c κs = search rules
 
-returns : tie.Need-returns
+returns : tie.Need-returns-then-same_client
 returns c =
-    let a = c.before.before.args in
-    let same : eqb a.first.0 a.client.0 ≡ true = sym c.before.same-client.ensures ∙ c.if1.true in
+    let a = c.args in
+    let same : eqb a.first.0 a.client.0 ≡ true = sym c.same_client.ensures ∙ c.if-same_client.true in
     rw same
 
-returns-2 : tie.Need-returns-2
+returns-2 : tie.Need-returns
 returns-2 c =
-    let a = c.before.before.args in
-    let apart : eqb a.first.0 a.client.0 ≡ false = sym c.before.same-client.ensures ∙ c.if1.false in
+    let a = c.args in
+    let apart : eqb a.first.0 a.client.0 ≡ false = sym c.same_client.ensures ∙ c.if-same_client.false in
     rw apart
 
 pub other_spec : {M : Type 1} → statement M

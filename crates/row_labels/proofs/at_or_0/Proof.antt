@@ -5,18 +5,18 @@ use borrow.Author.Rules.{rules}
 use Rattle.row_labels.proofs.at_or_0.Statement.{statement}
 use Rattle.row_labels.proofs.at_or_0.Tie as tie
 
-mul-result : tie.Need-overflow-mul-result
+mul-result : tie.Need-offset_bounds-list-i
 mul-result c = search rules
 
-shared-slice-read-result : tie.Need-shared-slice-read-result
+shared-slice-read-result : tie.Need-bounds-list-i
 shared-slice-read-result c = search rules
 
-returns : tie.Need-returns
+returns : tie.Need-returns-then-i-list
 returns c = search rules
 
-returns-2 : tie.Need-returns-2
+returns-2 : tie.Need-returns
 returns-2 c =
-    sym (get_or-eq_default c.before.args.list.now 0 c.if1.false)
+    sym (get_or-eq_default c.args.list.now 0 c.if-i-list.false)
 
 pub at_or_0_spec : {M : Type 1} → statement M
 at_or_0_spec = tie.close (tie.spec mul-result shared-slice-read-result returns returns-2)

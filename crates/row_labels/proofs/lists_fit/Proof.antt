@@ -12,7 +12,7 @@ remaining-requires c κs = search rules
 
 returns : tie.Need-returns
 returns c =
-    let a = c.before.before.before.before.args in
+    let a = c.args in
     rw c.remaining.ensures
     (lists-in (register_of 0 a.classes.now a.clients.now) (row_in a.matrix a.start a.classes) a.matrix.now a.start refl)
 

@@ -10,35 +10,35 @@ use Rattle.numerals.proofs.Digits.{byte-found}
 use Rattle.desk_lines.proofs.parts.read_last.Tie as tie
 use Rattle.desk_lines.proofs.parts.read_last.Statement.{statement}
 
-read-part-requires : tie.Need-read-part-requires
+read-part-requires : tie.Need-read_part-requires
 read-part-requires c κs = search rules
 
-enum_told : tie.Need-enum-told
+enum_told : tie.Need-enum_told-1
 enum_told c = search rules
 
-enum-known-n : tie.Need-enum-known-n
+enum-known-n : tie.Need-enum_known-n
 enum-known-n c = search rules
 
 stands-requires : tie.Need-stands-requires
 stands-requires c κs = search rules
 
-returns : tie.Need-returns
+returns : tie.Need-returns-then-not-stands
 unfolding last_at expected ◌>>=◌
 returns c =
-    rw (← c.before.before.before.before.before.read-part.ensures, c.before.before.before.n.given.1, ← c.before.stands.ensures, not-true c.before.stands.result c.if1.true)
+    rw (← c.read_part.ensures, c.in-Read.is, ← c.stands.ensures, c.if-not-stands.true)
 
-add-t9 : tie.Need-overflow-add-t9
+add-t9 : tie.Need-overflow_add-result
 add-t9 c =
-    omega (arith, byte-found c.before.before.before.before.before.before.before.args.text.now c.before.before.before.n.given.0.1.0 (omega arith) (sym c.before.stands.ensures ∙ not-false _ c.if1.false))
+    omega (arith, byte-found c.args.text.now c.in-Read.end (omega arith) (sym c.stands.ensures ∙ c.if-not-stands.false))
 
-returns-2 : tie.Need-returns-2
+returns-2 : tie.Need-returns-in-Ill
 unfolding last_at ◌>>=◌
-returns-2 c = rw (← c.before.before.read-part.ensures, c.enum_told.given.1)
+returns-2 c = rw (← c.read_part.ensures, c.in-Ill.is)
 
-returns-3 : tie.Need-returns-3
+returns-3 : tie.Need-returns-else-not-stands
 unfolding last_at expected ◌>>=◌
 returns-3 c =
-    rw (← c.before.before.before.before.before.read-part.ensures, c.before.before.before.n.given.1, ← c.before.stands.ensures, not-false c.before.stands.result c.if1.false, add-one)
+    rw (← c.read_part.ensures, c.in-Read.is, ← c.stands.ensures, c.if-not-stands.false, add-one)
 
 pub read_last_spec : {M : Type 1} → statement M
 read_last_spec =

@@ -14,25 +14,25 @@ use Rattle.desk_lines.proofs.parts.read_part.Tie as tie
 use Rattle.desk_lines.proofs.parts.read_part.Statement.{statement}
 
 -- past the test the space is there
-space : (c : tie.Else1) → eqb (byte_at c.before.before.before.args.text.now c.before.before.before.args.place) 32 ≡ true
-space c = sym c.before.stands.ensures ∙ not-false _ c.if1.false
+space : (c : tie.Else-not-stands) → eqb (byte_at c.args.text.now c.args.place) 32 ≡ true
+space c = sym c.stands.ensures ∙ c.if-not-stands.false
 
 stands-requires : tie.Need-stands-requires
 stands-requires c κs = search rules
 
-returns : tie.Need-returns
+returns : tie.Need-returns-then-not-stands
 unfolding part_at expected ◌>>=◌
-returns c = rw (← c.before.stands.ensures, not-true c.before.stands.result c.if1.true)
+returns c = rw (← c.stands.ensures, c.if-not-stands.true)
 
-add-read-number : tie.Need-overflow-add-read-number
+add-read-number : tie.Need-overflow_add-place
 add-read-number c =
-    let a = c.before.before.before.args in
+    let a = c.args in
     omega (arith, byte-found a.text.now a.place (omega arith) (space c))
 
-read-number-requires : tie.Need-read-number-requires
+read-number-requires : tie.Need-read_number-requires
 read-number-requires c κs = search rules
 
-returns-2 : tie.Need-returns-2
+returns-2 : tie.Need-returns
 unfolding part_at expected ◌>>=◌
 returns-2 c = rw (space c.before) (rw add-one at c.read_number.ensures)
 

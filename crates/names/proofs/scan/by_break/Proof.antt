@@ -5,12 +5,12 @@ use borrow.Author.Tests.{eq-eqb, ne_eqb}
 use Rattle.names.proofs.scan.by_break.Statement.{statement}
 use Rattle.names.proofs.scan.by_break.Tie as tie
 
-returns : tie.Need-returns
-returns c = sym (by_break-true _ _ _ (eq-eqb _ _ c.if1.true))
+returns : tie.Need-returns-then-b-eq10
+returns c = sym (by_break-true _ _ _ (eq-eqb _ _ c.if-b-eq10.true))
 
-returns-2 : tie.Need-returns-2
+returns-2 : tie.Need-returns
 returns-2 c =
-    sym (by_break-false _ _ _ (ne_eqb _ _ c.if1.false))
+    sym (by_break-false _ _ _ (ne_eqb _ _ c.if-b-eq10.false))
 
 pub by_break_spec : {M : Type 1} → statement M
 by_break_spec = tie.close (tie.spec returns returns-2)

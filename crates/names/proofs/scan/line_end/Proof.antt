@@ -6,21 +6,21 @@ use borrow.Author.Rules.{rules}
 use Rattle.names.proofs.scan.line_end.Statement.{statement}
 use Rattle.names.proofs.scan.line_end.Tie as tie
 
-returns : tie.Need-returns
+returns : tie.Need-returns-then-at-text
 returns c =
     sym (end-length _ _ (search rules))
 
-shared-slice-read-if2 : tie.Need-shared-slice-read-if2
+shared-slice-read-if2 : tie.Need-bounds-text-at
 shared-slice-read-if2 c = search rules
 
-returns-2 : tie.Need-returns-2
+returns-2 : tie.Need-returns-then-text-at-eq10
 returns-2 c =
-    sym (end-here _ _ (search rules) (eq-eqb _ _ c.if2.true))
+    sym (end-here _ _ (search rules) (eq-eqb _ _ c.if-text-at-eq10.true))
 
-end-blocks-requires : tie.Need-end-blocks-requires
+end-blocks-requires : tie.Need-end_blocks-requires
 end-blocks-requires c κs = search rules
 
-returns-3 : tie.Need-returns-3
+returns-3 : tie.Need-returns
 returns-3 c = search rules
 
 pub line_end_spec : {M : Type 1} → statement M

@@ -10,38 +10,38 @@ use borrow.Author.Rules.{rules}
 use Rattle.register_search.proofs.scan.search_from.Statement.{statement}
 use Rattle.register_search.proofs.scan.search_from.Tie as tie
 
-abbrev invariant-loop : tie.invariant-loop
+abbrev invariant-loop : tie.invariant-loop-f
 invariant-loop classes clients start f₀ f = (f ≤ length classes) × Clean (register_of 0 classes clients) f
 
-abbrev decreases-loop : tie.decreases-loop
+abbrev decreases-loop : tie.decreases-loop-f
 decreases-loop classes clients start f₀ f = length classes - f
 
-loop-holds : tie.Need-loop-init invariant-loop decreases-loop
+loop-holds : tie.Need-loop-f-init invariant-loop decreases-loop
 loop-holds c =
-    (c.before.before.requires.1, c.before.before.requires.2)
+    (c.requires.1, c.requires.2)
 
-any-earlier-requires : tie.Need-any-earlier-requires invariant-loop decreases-loop
+any-earlier-requires : tie.Need-any_earlier-requires invariant-loop decreases-loop
 any-earlier-requires c κs = search rules
 
-returns : tie.Need-returns invariant-loop decreases-loop
+returns : tie.Need-returns-then-any_earlier invariant-loop decreases-loop
 unfolding later
 returns c =
-    sym (first_found _ _ _ _ c.before.before.before.loop.invariant.1 (sym c.before.any-earlier.ensures ∙ c.if1.true) c.before.before.loop-test.true)
+    sym (first_found _ _ _ _ c.loop-f.invariant.1 (sym c.any_earlier.ensures ∙ c.if-any_earlier.true) c.loop-f-test.true)
 
-add-f : tie.Need-overflow-add-f invariant-loop decreases-loop
+add-f : tie.Need-overflow_add-f invariant-loop decreases-loop
 add-f c = search rules
 
-loop-less : tie.Need-loop-smaller invariant-loop decreases-loop
+loop-less : tie.Need-loop-f-smaller invariant-loop decreases-loop
 loop-less c = search rules
 
-loop-again : tie.Need-loop-preserved invariant-loop decreases-loop
+loop-again : tie.Need-loop-f-preserved invariant-loop decreases-loop
 loop-again c =
-    (omega arith, those-none _ _ c.before.before.before.loop.invariant.1 (sym c.before.any-earlier.ensures ∙ c.if1.false))
+    (omega arith, those-none _ _ c.loop-f.invariant.1 (sym c.any_earlier.ensures ∙ c.if-any_earlier.false))
 
-returns-2 : tie.Need-returns-2 invariant-loop decreases-loop
+returns-2 : tie.Need-returns invariant-loop decreases-loop
 unfolding later
 returns-2 c =
-    sym (first-end _ _ _ c.before.loop.invariant.1 c.before.loop.invariant.0 c.loop-test.false)
+    sym (first-end _ _ _ c.loop-f.invariant.1 c.loop-f.invariant.0 c.loop-f-test.false)
 
 pub search_from_spec : {M : Type 1} → statement M
 search_from_spec =

@@ -7,19 +7,19 @@ use borrow.Author.Rules.{rules}
 use Rattle.register_search.proofs.table.link.Statement.{statement}
 use Rattle.register_search.proofs.table.link.Tie as tie
 
-mul-nexts : tie.Need-overflow-mul-nexts
+mul-nexts : tie.Need-offset_bounds-nexts-f
 mul-nexts c = search rules
 
-element-write-nexts : tie.Need-element-write-nexts
+element-write-nexts : tie.Need-bounds-nexts-f
 element-write-nexts c = search rules
 
-returns : tie.Need-returns
+returns : tie.Need-returns-then-past-gt0
 returns c = search rules
 
-returns-2 : tie.Need-returns-2
+returns-2 : tie.Need-returns-else-past-gt0
 returns-2 c =
-    let s = c.before.args in
-    let e : s.past ≡ get_or s.nexts.now s.f 0 = rw c.before.requires.1.1 (omega arith) in
+    let s = c.args in
+    let e : s.past ≡ get_or s.nexts.now s.f 0 = rw c.requires.1.1 (omega arith) in
     sym (ap (set s.nexts.now s.f) e ∙ set-get_or s.nexts.now s.f 0)
 
 pub link_spec : {M : Type 1} → statement M

@@ -14,79 +14,79 @@ use borrow.Author.Rules.{rules}
 use Rattle.register_search.proofs.table.walk_later.Statement.{statement}
 use Rattle.register_search.proofs.table.walk_later.Tie as tie
 
-abbrev invariant-loop : tie.invariant-loop
+abbrev invariant-loop : tie.invariant-loop-f
 invariant-loop classes clients slots nexts₀ heads₀ left₀ f₀ nexts heads left f =
     (f ≤ length classes) × (Clean (register_of 0 classes clients) f × Chained clients heads nexts f)
 
-abbrev decreases-loop : tie.decreases-loop
+abbrev decreases-loop : tie.decreases-loop-f
 decreases-loop classes clients slots nexts₀ heads₀ left₀ f₀ nexts heads left f = length classes - f
 
-list-slots-requires : tie.Need-list-slots-requires invariant-loop decreases-loop
+list-slots-requires : tie.Need-list_slots-requires invariant-loop decreases-loop
 list-slots-requires c κs = search rules
 
-loop-holds : tie.Need-loop-init invariant-loop decreases-loop
+loop-holds : tie.Need-loop-f-init invariant-loop decreases-loop
 unfolding those
 loop-holds c =
     (omega arith, (refl, chained-none _))
 
-mul_wide : tie.Need-overflow-mul-wide invariant-loop decreases-loop
+mul_wide : tie.Need-offset_bounds-slots-f invariant-loop decreases-loop
 mul_wide c = search rules
 
-array-read-wide : tie.Need-array-read-wide invariant-loop decreases-loop
+array-read-wide : tie.Need-bounds-slots-f invariant-loop decreases-loop
 array-read-wide c = search rules
 
-wide-requires : tie.Need-wide-requires invariant-loop decreases-loop
+wide-requires : tie.Need-wide-s-requires invariant-loop decreases-loop
 wide-requires c κs = search rules
 
-last-of-client-requires : tie.Need-last-of-client-requires invariant-loop decreases-loop
+last-of-client-requires : tie.Need-last_of_client-requires invariant-loop decreases-loop
 last-of-client-requires c κs =
-    ((c.before.before.wide.ensures ∙ c.before.before.before.before.before.list-slots.ensures.each-slot _ (omega arith)), omega arith, (omega arith, c.before.before.before.before.loop.invariant.1.1))
+    ((c.wide-s.ensures ∙ c.list_slots.ensures.each-slot _ (omega arith)), omega arith, (omega arith, c.loop-f.invariant.1.1))
 
-enum_told : tie.Need-enum-told invariant-loop decreases-loop
+enum_told : tie.Need-enum_told-1 invariant-loop decreases-loop
 enum_told c = search rules
 
-search-from-requires : tie.Need-search-from-requires invariant-loop decreases-loop
+search-from-requires : tie.Need-search_from-requires invariant-loop decreases-loop
 search-from-requires c κs =
-    (c.before.before.before.before.before.before.before.before.before.before.before.before.requires.1, c.before.before.before.before.before.before.before.loop.invariant.0, c.before.before.before.before.before.before.before.loop.invariant.1.0)
+    (c.requires.1, c.loop-f.invariant.0, c.loop-f.invariant.1.0)
 
-returns : tie.Need-returns invariant-loop decreases-loop
+returns : tie.Need-returns-in-GaveUp invariant-loop decreases-loop
 returns c =
-    c.search-from.ensures
+    c.search_from.ensures
 
-enum-known-past : tie.Need-enum-known-past invariant-loop decreases-loop
+enum-known-past : tie.Need-enum_known-past invariant-loop decreases-loop
 enum-known-past c = search rules
 
 clashes-requires : tie.Need-clashes-requires invariant-loop decreases-loop
 clashes-requires c κs =
-    (omega arith, rw (rw c.before.past.given.1 at c.before.before.before.last-of-client.ensures) (past_last-le _ _))
+    (omega arith, rw (rw c.in-Past.is at c.last_of_client.ensures) (past_last-le _ _))
 
-returns-2 : tie.Need-returns-2 invariant-loop decreases-loop
+returns-2 : tie.Need-returns-then-clashes invariant-loop decreases-loop
 unfolding later
 returns-2 c =
-    let p = rw c.before.before.before.past.given.1 at c.before.before.before.before.before.last-of-client.ensures in
-    let i = c.before.before.before.before.before.before.before.before.before.before.loop.invariant.1.0 in
-    sym (first_found _ _ _ _ i (told-step _ _ i _ (last-telling _ _) (past_last-le _ _) ∙ rw p at (sym c.before.clashes.ensures ∙ c.if1.true)) c.before.before.before.before.before.before.before.before.before.loop-test.true)
+    let p = rw c.in-Past.is at c.last_of_client.ensures in
+    let i = c.loop-f.invariant.1.0 in
+    sym (first_found _ _ _ _ i (told-step _ _ i _ (last-telling _ _) (past_last-le _ _) ∙ rw p at (sym c.clashes.ensures ∙ c.if-clashes.true)) c.loop-f-test.true)
 
 enter-requires : tie.Need-enter-requires invariant-loop decreases-loop
 enter-requires c κs =
-    ((c.before.before.before.before.before.before.before.before.before.before.wide.ensures ∙ c.before.before.before.before.before.before.before.before.before.before.before.before.before.list-slots.ensures.each-slot _ (omega arith)), omega arith, (omega arith, c.before.before.before.before.before.before.before.before.before.before.before.before.loop.invariant.1.1))
+    ((c.wide-s.ensures ∙ c.list_slots.ensures.each-slot _ (omega arith)), omega arith, (omega arith, c.loop-f.invariant.1.1))
 
-add-f : tie.Need-overflow-add-f invariant-loop decreases-loop
+add-f : tie.Need-overflow_add-f invariant-loop decreases-loop
 add-f c = search rules
 
-loop-less : tie.Need-loop-smaller invariant-loop decreases-loop
+loop-less : tie.Need-loop-f-smaller invariant-loop decreases-loop
 loop-less c = search rules
 
-loop-again : tie.Need-loop-preserved invariant-loop decreases-loop
+loop-again : tie.Need-loop-f-preserved invariant-loop decreases-loop
 loop-again c =
-    let p = rw c.before.before.before.before.before.before.past.given.1 at c.before.before.before.before.before.before.before.before.last-of-client.ensures in
-    let i = c.before.before.before.before.before.before.before.before.before.before.before.before.before.loop.invariant.1.0 in
-    (omega arith, (those-none _ _ i (told-step _ _ i _ (last-telling _ _) (past_last-le _ _) ∙ rw p at (sym c.before.before.before.before.clashes.ensures ∙ c.before.before.before.if1.false)), c.enter.ensures))
+    let p = rw c.in-Past.is at c.last_of_client.ensures in
+    let i = c.loop-f.invariant.1.0 in
+    (omega arith, (those-none _ _ i (told-step _ _ i _ (last-telling _ _) (past_last-le _ _) ∙ rw p at (sym c.clashes.ensures ∙ c.if-clashes.false)), c.enter.ensures))
 
-returns-3 : tie.Need-returns-3 invariant-loop decreases-loop
+returns-3 : tie.Need-returns invariant-loop decreases-loop
 unfolding later
 returns-3 c =
-    sym (first-end _ _ _ c.before.loop.invariant.1.0 c.before.loop.invariant.0 c.loop-test.false)
+    sym (first-end _ _ _ c.loop-f.invariant.1.0 c.loop-f.invariant.0 c.loop-f-test.false)
 
 pub walk_later_spec : {M : Type 1} → statement M
 walk_later_spec =
