@@ -14,8 +14,8 @@ pub record Part : Type 0 where
 abbrev pub part_of : Bor (List ℕ) → Part
 part_of slice =
     record {
-      block = slice.ptr.0;
-      start = slice.ptr.1;
+      block = slice.ref_ptr.0;
+      start = slice.ref_ptr.1;
       bytes = slice.now;
     }
 

@@ -58,8 +58,8 @@ module _ (r : Register) (ok : Accepted r) where
       (not-false (eqb (class_of r g) (class_of r f)) (rw (eq-eqb (client_of r g) (client_of r f) e) at (alike f g h i)))
 
   -- Two folders of one client have one class.
-  pub one_class : (f g : ℕ) → f < folders r → g < folders r → client_of r f ≡ client_of r g → class_of r f ≡ class_of r g
-  one_class f g h i e =
+  pub class-same : (f g : ℕ) → f < folders r → g < folders r → client_of r f ≡ client_of r g → class_of r f ≡ class_of r g
+  class-same f g h i e =
       elim (dec_lt f g) [
         | yes j ↦ alike-class g f i j e
         | no j ↦ elim (ℕ_discrete f g) [ yes k ↦ ap (class_of r) k | no k ↦ sym (alike-class f g h (omega arith) (sym e)) ]

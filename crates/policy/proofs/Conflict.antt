@@ -12,7 +12,7 @@ use Rattle.register.specs.Register.{Register, folders, class_of, client_of, pair
 use Rattle.policy.specs.Conflict.{one_class, pair_names, paired, in_conflict}
 use Rattle.policy.specs.Wall.{Conflict, wall_of}
 use Rattle.policy.proofs.Wall.{Lawful}
-use Rattle.policy.proofs.Accepted.{class-zero, client-zero, one_class, pair-sound}
+use Rattle.policy.proofs.Accepted.{class-zero, client-zero, class-same, pair-sound}
 
 -- What a test on folders that tells conflict has to meet, so that the wall's laws follow: it goes both ways, it tells two clients, neither of them 0,
 -- and it tells the same of any other folders of theirs.
@@ -45,7 +45,7 @@ module _ (r : Register) where
         alike = λ f g h k i j l m a b e.
             let p = class-parts f g e in
             class-told h k
-            (sym (one_class r ok f h i l a) ∙ (p.0 ∙ one_class r ok g k j m b))
+            (sym (class-same r ok f h i l a) ∙ (p.0 ∙ class-same r ok g k j m b))
             (λ c. p.1 (a ∙ (c ∙ sym b)));
       }
 

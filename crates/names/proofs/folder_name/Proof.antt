@@ -15,14 +15,14 @@ enum-known-span c = search rules
 
 part-requires : tie.Need-part-requires
 part-requires c κs =
-    stretch-fits _ _ _ {s = stretch_of 0 c.span-1.given.0.0} (rw c.span-1.given.1 at c.find.ensures)
+    stretch-fits _ _ _ {s = stretch_of 0 c.in-Client.span} (rw c.in-Client.is at c.find.ensures)
 
 enum-known-span-2 : tie.Need-enum_known-span-in-House-1
 enum-known-span-2 c = search rules
 
 part-requires-2 : tie.Need-part-requires-in-House
 part-requires-2 c κs =
-    stretch-fits _ _ _ {s = stretch_of 1 c.span-in-House-1.given.0.0} (rw c.span-in-House-1.given.1 at c.find.ensures)
+    stretch-fits _ _ _ {s = stretch_of 1 c.in-House.span} (rw c.in-House.is at c.find.ensures)
 
 enum_told : tie.Need-enum_told-1
 enum_told c = search rules
@@ -30,23 +30,23 @@ enum_told c = search rules
 sub-result : tie.Need-slice_bounds-result-count
 sub-result c = search rules
 
-part-result-start : tie.Need-slice-bounds-result-start
+part-result-start : tie.Need-slice_bounds-result-start
 part-result-start c = search rules
 
-part-result-end : tie.Need-slice-bounds-result-end
+part-result-end : tie.Need-slice_bounds-result-end
 part-result-end c = search rules
 
 returns : tie.Need-returns-in-Client
 returns c =
-    c.part.ensures ∙ cut-name_shown _ _ _ {s = stretch_of 0 c.span-1.given.0.0} (rw c.span-1.given.1 at c.find.ensures)
+    c.part.ensures ∙ cut-name_shown _ _ _ {s = stretch_of 0 c.in-Client.span} (rw c.in-Client.is at c.find.ensures)
 
 returns-2 : tie.Need-returns-in-House
 returns-2 c =
-    c.part-in-House.ensures ∙ cut-name_shown _ _ _ {s = stretch_of 1 c.span-in-House-1.given.0.0} (rw c.span-in-House-1.given.1 at c.find.ensures)
+    c.part-in-House.ensures ∙ cut-name_shown _ _ _ {s = stretch_of 1 c.in-House.span} (rw c.in-House.is at c.find.ensures)
 
 returns-3 : tie.Need-returns-in-Unnamed
 returns-3 c =
-    cut-none (part_of c.args.client) ∙ cut-name_shown _ _ _ {s = no_stretch} (rw c.enum_told-1.given.1 at c.find.ensures)
+    cut-none (part_of c.args.client) ∙ cut-name_shown _ _ _ {s = no_stretch} (rw c.in-Unnamed.is at c.find.ensures)
 
 pub folder_name_spec : {M : Type 1} → statement M
 folder_name_spec =

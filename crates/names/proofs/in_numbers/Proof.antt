@@ -20,15 +20,15 @@ enum_told c = search rules
 
 returns : tie.Need-returns-in-Client
 returns c =
-    rw (c.of_text.ensures, c.name-1.given.1)
+    rw (c.of_text.ensures, c.in-Client.is)
 
 returns-2 : tie.Need-returns-in-House
 returns-2 c =
-    rw (c.of_text-in-House.ensures, c.name-in-House-1.given.1)
+    rw (c.of_text-in-House.ensures, c.in-House.is)
 
 returns-3 : tie.Need-returns-in-Unnamed
 returns-3 c =
-    rw c.enum_told-1.given.1
+    rw c.in-Unnamed.is
 
 pub in_numbers_spec : {M : Type 1} → statement M
 in_numbers_spec =

@@ -5,17 +5,17 @@ use borrow.Author.Rules.{rules}
 use Rattle.register_check.proofs.pairs_refused.Statement.{statement}
 use Rattle.register_check.proofs.pairs_refused.Tie as tie
 
-bad-pairs-requires : tie.Need-bad-pairs-requires
+bad-pairs-requires : tie.Need-bad_pairs-requires
 bad-pairs-requires c κs = search rules
 
-returns : tie.Need-returns
+returns : tie.Need-returns-then-by_pairs
 returns c =
-    let mode : c.before.before.before.before.args.by-pairs ≡ true = c.before.if1.true in
-    rw mode c.bad-pairs.ensures
+    let mode : c.args.by_pairs ≡ true = c.if-by_pairs.true in
+    rw mode c.bad_pairs.ensures
 
-returns-2 : tie.Need-returns-2
+returns-2 : tie.Need-returns
 returns-2 c =
-    let mode : c.before.before.before.args.by-pairs ≡ false = c.if1.false in
+    let mode : c.args.by_pairs ≡ false = c.if-by_pairs.false in
     rw mode
 
 pub pairs_refused_spec : {M : Type 1} → statement M

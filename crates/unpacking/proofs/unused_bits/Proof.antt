@@ -5,18 +5,18 @@ use borrow.Author.Rules.{rules}
 use Rattle.unpacking.proofs.unused_bits.Statement.{statement}
 use Rattle.unpacking.proofs.unused_bits.Tie as tie
 
-shared-slice-read-from-cell : tie.Need-shared-slice-read-from-cell
+shared-slice-read-from-cell : tie.Need-bounds-bytes-count
 shared-slice-read-from-cell c = search rules
 
-from-cell-requires : tie.Need-from-cell-requires
+from-cell-requires : tie.Need-from_cell-requires
 from-cell-requires c κs = search rules
 
-returns : tie.Need-returns
+returns : tie.Need-returns-then-count-bytes
 returns c = search rules
 
-returns-2 : tie.Need-returns-2
+returns-2 : tie.Need-returns
 returns-2 c =
-    rw (get_or-eq_default c.before.before.args.bytes.now 0 c.if1.false, zero-div)
+    rw (get_or-eq_default c.args.bytes.now 0 c.if-count-bytes.false, zero-div)
 
 pub unused_bits_spec : {M : Type 1} → statement M
 unused_bits_spec = tie.close (tie.spec shared-slice-read-from-cell from-cell-requires returns returns-2)

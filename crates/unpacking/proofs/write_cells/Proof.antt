@@ -12,72 +12,72 @@ use borrow.Author.Rules.{rules}
 use Rattle.unpacking.proofs.write_cells.Statement.{statement}
 use Rattle.unpacking.proofs.write_cells.Tie as tie
 
-abbrev invariant-loop : tie.invariant-loop
+abbrev invariant-loop : tie.invariant-loop-k
 invariant-loop bytes cells₀ whole k₀ cells k =
     (k ≤ whole) × (length cells ≡ length cells₀) × (cells ≡ filled (cell_at bytes) (4 * k) cells₀)
 
-abbrev decreases-loop : tie.decreases-loop
+abbrev decreases-loop : tie.decreases-loop-k
 decreases-loop bytes cells₀ whole k₀ cells k = whole - k
 
-loop-holds : tie.Need-loop-init invariant-loop decreases-loop
+loop-holds : tie.Need-loop-k-init invariant-loop decreases-loop
 loop-holds c =
     (search rules, refl, filled_zero _ _)
 
-shared-slice-read-byte : tie.Need-shared-slice-read-byte invariant-loop decreases-loop
+shared-slice-read-byte : tie.Need-bounds-bytes-k invariant-loop decreases-loop
 shared-slice-read-byte c = search rules
 
-mul-i : tie.Need-overflow-mul-i invariant-loop decreases-loop
+mul-i : tie.Need-overflow_mul-i invariant-loop decreases-loop
 mul-i c = search rules
 
-slice-write-cells : tie.Need-slice-write-cells invariant-loop decreases-loop
+slice-write-cells : tie.Need-bounds-cells-i invariant-loop decreases-loop
 slice-write-cells c = search rules
 
-add-cells : tie.Need-overflow-add-cells invariant-loop decreases-loop
+add-cells : tie.Need-overflow_add-cells invariant-loop decreases-loop
 add-cells c = search rules
 
-slice-write-cells-2 : tie.Need-slice-write-cells-2 invariant-loop decreases-loop
+slice-write-cells-2 : tie.Need-bounds-cells-i-in-loop-k invariant-loop decreases-loop
 slice-write-cells-2 c =
     simp length-set (omega arith)
 
-add-cells-2 : tie.Need-overflow-add-cells-2 invariant-loop decreases-loop
+add-cells-2 : tie.Need-overflow_add-cells-in-loop-k invariant-loop decreases-loop
 add-cells-2 c = search rules
 
-slice-write-cells-3 : tie.Need-slice-write-cells-3 invariant-loop decreases-loop
+slice-write-cells-3 : tie.Need-bounds-cells-i-in-loop-k-2 invariant-loop decreases-loop
 slice-write-cells-3 c =
     simp length-set (omega arith)
 
-add-cells-3 : tie.Need-overflow-add-cells-3 invariant-loop decreases-loop
+add-cells-3 : tie.Need-overflow_add-cells-in-loop-k-2 invariant-loop decreases-loop
 add-cells-3 c = search rules
 
-slice-write-cells-4 : tie.Need-slice-write-cells-4 invariant-loop decreases-loop
+slice-write-cells-4 : tie.Need-bounds-cells-i-in-loop-k-3 invariant-loop decreases-loop
 slice-write-cells-4 c =
     simp length-set (omega arith)
 
-add-k : tie.Need-overflow-add-k invariant-loop decreases-loop
+add-k : tie.Need-overflow_add-k invariant-loop decreases-loop
 add-k c = search rules
 
-loop-less : tie.Need-loop-smaller invariant-loop decreases-loop
+loop-less : tie.Need-loop-k-smaller invariant-loop decreases-loop
 loop-less c = search rules
 
-loop-again : tie.Need-loop-preserved invariant-loop decreases-loop
+loop-again : tie.Need-loop-k-preserved invariant-loop decreases-loop
 loop-again c =
-    let bytes = c.before.before.before.before.before.args.bytes.now in
-    let k = c.before.before.loop.k in
-    (search rules, simp length-set (omega arith), filled-byte bytes c.before.before.before.before.before.args.cells.now k (4 * (k + 1)) c.before.before.loop.invariant.2 (omega arith) (omega arith))
+    let bytes = c.args.bytes.now in
+    let k = c.loop-k.k in
+    (search rules, simp length-set (omega arith), filled-byte bytes c.args.cells.now k (4 * (k + 1)) c.loop-k.invariant.2 (omega arith) (omega arith))
 
-mul-write-rest : tie.Need-overflow-mul-write-rest invariant-loop decreases-loop
+mul-write-rest : tie.Need-overflow_mul-whole invariant-loop decreases-loop
 mul-write-rest c = search rules
 
-write-rest-requires : tie.Need-write-rest-requires invariant-loop decreases-loop
+write-rest-requires : tie.Need-write_rest-requires invariant-loop decreases-loop
 write-rest-requires c κs =
-    (search rules, search rules, filled-again _ _ c.before.before.loop.invariant.2 (search rules))
+    (search rules, search rules, filled-again _ _ c.loop-k.invariant.2 (search rules))
 
-same_length : tie.Need-same-length invariant-loop decreases-loop
+same_length : tie.Need-shape_of-cells invariant-loop decreases-loop
 same_length c = search rules
 
 returns : tie.Need-returns invariant-loop decreases-loop
 returns c =
-    c.before.before.write-rest.ensures ∙ ap (λ n. unpacked n c.before.before.before.before.before.before.before.before.args.bytes.now) c.before.before.before.before.before.loop.invariant.1
+    c.write_rest.ensures ∙ ap (λ n. unpacked n c.args.bytes.now) c.loop-k.invariant.1
 
 pub write_cells_spec : {M : Type 1} → statement M
 write_cells_spec =

@@ -28,10 +28,10 @@ add-first-in c = search rules
 sub-first-in : tie.Need-slice_bounds-first_in-count invariant-loop decreases-loop
 sub-first-in c = search rules
 
-part-first-in-start : tie.Need-slice-bounds-first-in-start invariant-loop decreases-loop
+part-first-in-start : tie.Need-slice_bounds-first_in-start invariant-loop decreases-loop
 part-first-in-start c = search rules
 
-part-first-in-end : tie.Need-slice-bounds-first-in-end invariant-loop decreases-loop
+part-first-in-end : tie.Need-slice_bounds-first_in-end invariant-loop decreases-loop
 part-first-in-end c = search rules
 
 first-in-requires : tie.Need-first_in-first-requires invariant-loop decreases-loop

@@ -34,10 +34,10 @@ add-breaks-in c = search rules
 sub-breaks-in : tie.Need-slice_bounds-breaks_in-count invariant-loop decreases-loop
 sub-breaks-in c = search rules
 
-part-breaks-in-start : tie.Need-slice-bounds-breaks-in-start invariant-loop decreases-loop
+part-breaks-in-start : tie.Need-slice_bounds-breaks_in-start invariant-loop decreases-loop
 part-breaks-in-start c = search rules
 
-part-breaks-in-end : tie.Need-slice-bounds-breaks-in-end invariant-loop decreases-loop
+part-breaks-in-end : tie.Need-slice_bounds-breaks_in-end invariant-loop decreases-loop
 part-breaks-in-end c = search rules
 
 breaks-in-requires : tie.Need-breaks_in-here-requires invariant-loop decreases-loop

@@ -11,37 +11,37 @@ use Rattle.register.specs.Register.{register_of, lone_zero}
 use Rattle.register_check.proofs.zeros.first_lone_zero.Statement.{statement}
 use Rattle.register_check.proofs.zeros.first_lone_zero.Tie as tie
 
-abbrev invariant-loop : tie.invariant-loop
+abbrev invariant-loop : tie.invariant-loop-f
 invariant-loop classes clients f₀ f = (f ≤ length classes) × (those (lone_zero (register_of 0 classes clients)) f ≡ [])
 
-abbrev decreases-loop : tie.decreases-loop
+abbrev decreases-loop : tie.decreases-loop-f
 decreases-loop classes clients f₀ f = length classes - f
 
-loop-holds : tie.Need-loop-init invariant-loop decreases-loop
+loop-holds : tie.Need-loop-f-init invariant-loop decreases-loop
 unfolding those
 loop-holds c =
     (omega arith, refl)
 
-lone-zero-requires : tie.Need-lone-zero-requires invariant-loop decreases-loop
+lone-zero-requires : tie.Need-lone_zero-requires invariant-loop decreases-loop
 lone-zero-requires c κs = search rules
 
-returns : tie.Need-returns invariant-loop decreases-loop
+returns : tie.Need-returns-then-lone_zero invariant-loop decreases-loop
 returns c =
-    (sym (first_found _ _ _ _ c.before.before.before.loop.invariant.1 (sym c.before.lone-zero.ensures ∙ c.if1.true) c.before.before.loop-test.true), omega arith)
+    (sym (first_found _ _ _ _ c.loop-f.invariant.1 (sym c.lone_zero.ensures ∙ c.if-lone_zero.true) c.loop-f-test.true), omega arith)
 
-add-f : tie.Need-overflow-add-f invariant-loop decreases-loop
+add-f : tie.Need-overflow_add-f invariant-loop decreases-loop
 add-f c = search rules
 
-loop-less : tie.Need-loop-smaller invariant-loop decreases-loop
+loop-less : tie.Need-loop-f-smaller invariant-loop decreases-loop
 loop-less c = search rules
 
-loop-again : tie.Need-loop-preserved invariant-loop decreases-loop
+loop-again : tie.Need-loop-f-preserved invariant-loop decreases-loop
 loop-again c =
-    (omega arith, those-none _ _ c.before.before.before.loop.invariant.1 (sym c.before.lone-zero.ensures ∙ c.if1.false))
+    (omega arith, those-none _ _ c.loop-f.invariant.1 (sym c.lone_zero.ensures ∙ c.if-lone_zero.false))
 
-returns-2 : tie.Need-returns-2 invariant-loop decreases-loop
+returns-2 : tie.Need-returns invariant-loop decreases-loop
 returns-2 c =
-    (sym (first-end _ _ _ c.before.loop.invariant.1 c.before.loop.invariant.0 c.loop-test.false), omega arith)
+    (sym (first-end _ _ _ c.loop-f.invariant.1 c.loop-f.invariant.0 c.loop-f-test.false), omega arith)
 
 pub first_lone_zero_spec : {M : Type 1} → statement M
 first_lone_zero_spec =

@@ -14,21 +14,21 @@ not-beq true false = refl
 not-beq false true = refl
 not-beq false false = refl
 
-mul-result : tie.Need-overflow-mul-result
+mul-result : tie.Need-offset_bounds-classes-f
 mul-result c = search rules
 
-shared-slice-read-result : tie.Need-shared-slice-read-result
+shared-slice-read-result : tie.Need-bounds-classes-f
 shared-slice-read-result c = search rules
 
-mul-result-2 : tie.Need-overflow-mul-result-2
+mul-result-2 : tie.Need-offset_bounds-clients-f
 mul-result-2 c = search rules
 
-shared-slice-read-result-2 : tie.Need-shared-slice-read-result-2
+shared-slice-read-result-2 : tie.Need-bounds-clients-f
 shared-slice-read-result-2 c = search rules
 
 returns : tie.Need-returns
 returns c =
-    not-beq (eqb (get_or c.before.before.args.classes.now c.before.before.args.f 0) 0) (eqb (get_or c.before.before.args.clients.now c.before.before.args.f 0) 0)
+    not-beq (eqb (get_or c.args.classes.now c.args.f 0) 0) (eqb (get_or c.args.clients.now c.args.f 0) 0)
 
 pub lone_zero_spec : {M : Type 1} → statement M
 lone_zero_spec =
