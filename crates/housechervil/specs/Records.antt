@@ -1,6 +1,6 @@
 -- Document 01's answers as the records that a caller in another language gets. A value that an answer does not carry is 0.
 use Rattle.std.specs.Prelude.{ℕ, Bool, cond, not, List, eqb, get_or}
-use Rattle.std.specs.Borrow.{Bor}
+use Rattle.std.specs.Borrow.{MutBor}
 use denote.Triple.Both.{Both}
 use Rattle.vocabulary.specs.Answer.{Answer}
 use Rattle.response.specs.Response.{numbers_of}
@@ -58,7 +58,7 @@ log_at bytes end serial =
     }
 
 -- The same, of the buffer as it is when the function is called.
-abbrev pub lent_at : {X : Type 0} → Both (Bor (List ℕ)) X → ℕ → ℕ → Log
+abbrev pub lent_at : {X : Type 0} → Both (MutBor (List ℕ)) X → ℕ → ℕ → Log
 lent_at log end serial = log_at log.entry.now end serial
 
 -- What the caller has after a request: the reply, the matrix and the log's bytes.

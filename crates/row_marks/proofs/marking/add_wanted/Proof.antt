@@ -7,54 +7,51 @@ use borrow.Author.Rules.{rules}
 use Rattle.row_marks.proofs.marking.add_wanted.Statement.{statement}
 use Rattle.row_marks.proofs.marking.add_wanted.Tie as tie
 
-abbrev invariant-loop : tie.invariant-loop
+abbrev invariant-loop : tie.invariant-loop-i
 invariant-loop others wanted bits₀ i₀ bits i = (i ≤ 64) × Passed others wanted bits i
 
-abbrev decreases-loop : tie.decreases-loop
+abbrev decreases-loop : tie.decreases-loop-i
 decreases-loop others wanted bits₀ i₀ bits i = 64 - i
 
-loop-holds : tie.Need-loop-init invariant-loop decreases-loop
+loop-holds : tie.Need-loop-i-init invariant-loop decreases-loop
 loop-holds c =
     (omega arith, rw c.requires.1 (passed_none _ _))
 
 add-requires : tie.Need-add-requires invariant-loop decreases-loop
 add-requires c κs = search rules
 
-add-add : tie.Need-overflow-add-add invariant-loop decreases-loop
+add-add : tie.Need-overflow_add-i invariant-loop decreases-loop
 add-add c = search rules
 
-add-requires-2 : tie.Need-add-requires-2 invariant-loop decreases-loop
+add-requires-2 : tie.Need-add-requires-in-loop-i invariant-loop decreases-loop
 add-requires-2 c κs = search rules
 
-add-add-2 : tie.Need-overflow-add-add-2 invariant-loop decreases-loop
+add-add-2 : tie.Need-overflow_add-i-in-loop-i invariant-loop decreases-loop
 add-add-2 c = search rules
 
-add-requires-3 : tie.Need-add-requires-3 invariant-loop decreases-loop
+add-requires-3 : tie.Need-add-requires-in-loop-i-2 invariant-loop decreases-loop
 add-requires-3 c κs = search rules
 
-add-add-3 : tie.Need-overflow-add-add-3 invariant-loop decreases-loop
+add-add-3 : tie.Need-overflow_add-i-in-loop-i-2 invariant-loop decreases-loop
 add-add-3 c = search rules
 
-add-requires-4 : tie.Need-add-requires-4 invariant-loop decreases-loop
+add-requires-4 : tie.Need-add-requires-in-loop-i-3 invariant-loop decreases-loop
 add-requires-4 c κs = search rules
 
-add-i : tie.Need-overflow-add-i invariant-loop decreases-loop
+add-i : tie.Need-overflow_add-i-in-loop-i-3 invariant-loop decreases-loop
 add-i c = search rules
 
-loop-less : tie.Need-loop-smaller invariant-loop decreases-loop
+loop-less : tie.Need-loop-i-smaller invariant-loop decreases-loop
 loop-less c = search rules
 
-loop-again : tie.Need-loop-preserved invariant-loop decreases-loop
+loop-again : tie.Need-loop-i-preserved invariant-loop decreases-loop
 loop-again c =
-    let one = c.before.before.before.before.before.before in
-    let two = c.before.before.before.before in
-    let three = c.before.before in
-    let done = one.before.before.before.loop.invariant.1 in
-    (omega arith, passed-more _ _ _ _ _ _ _ _ done one.add.ensures two.add2.ensures three.add3.ensures c.add4.ensures)
+    let done = c.loop-i.invariant.1 in
+    (omega arith, passed-more _ _ _ _ _ _ _ _ done c.add.ensures c.add-in-loop-i.ensures c.add-in-loop-i-2.ensures c.add-in-loop-i-3.ensures)
 
 returns : tie.Need-returns invariant-loop decreases-loop
 returns c =
-    let end : c.before.loop.i ≡ 64 = omega arith in passed-all _ _ _ (rw end at c.before.loop.invariant.1)
+    let end : c.loop-i.i ≡ 64 = omega arith in passed-all _ _ _ (rw end at c.loop-i.invariant.1)
 
 pub add_wanted_spec : {M : Type 1} → statement M
 add_wanted_spec =

@@ -15,166 +15,157 @@ use borrow.Author.Rules.{rules}
 use Rattle.row_marks.proofs.walk.first.Statement.{statement}
 use Rattle.row_marks.proofs.walk.first.Tie as tie
 
-abbrev invariant-loop : tie.invariant-loop
+abbrev invariant-loop : tie.invariant-loop-f
 invariant-loop matrix start clients bits whole place₀ f₀ place f =
     (f ≤ whole) × ((f % 24 ≡ 0) × (Placed (length clients) start f place × (those (read_marked (row_at matrix start (length clients)) clients bits) f ≡ [])))
 
-abbrev decreases-loop : tie.decreases-loop
+abbrev decreases-loop : tie.decreases-loop-f
 decreases-loop matrix start clients bits whole place₀ f₀ place f = whole - f
 
 -- The 24 folders of a turn are in the row, and neither they nor their places go past what a number holds.
-module _ (t : tie.In-loop invariant-loop decreases-loop) where
+module _ (t : tie.In-loop-f invariant-loop decreases-loop) where
   abbrev start : ℕ
-  start = t.before.before.before.before.args.start
+  start = t.args.start
 
   abbrev clients : List ℕ
-  clients = t.before.before.before.before.args.clients.now
+  clients = t.args.clients.now
 
   abbrev row : List ℕ
-  row = row_at t.before.before.before.before.args.matrix.now start (length clients)
+  row = row_at t.args.matrix.now start (length clients)
 
   abbrev place : ℕ
-  place = t.before.loop.place
+  place = t.loop-f.place
 
   abbrev f : ℕ
-  f = t.before.loop.f
+  f = t.loop-f.f
 
   within : f + 24 ≤ length clients
-  within = omega (arith, t.loop-test.taken, t.before.loop.inv.0, t.before.loop.inv.1.0)
+  within = omega (arith, t.loop-f-test.true, t.loop-f.invariant.0, t.loop-f.invariant.1.0)
 
   folder-fits : (k : ℕ) → k ≤ 24 → Fits w64 (f + k)
   folder-fits k h = omega (arith, within, h)
 
   place-fits : (k : ℕ) → k ≤ 24 → Fits w64 (place + k)
   place-fits k h =
-      let room = row_at-room _ start (length clients) t.before.before.before.before.pre in
-      omega (arith, within, h, t.before.loop.inv.1.1.0.0, room)
+      let room = row_at-room _ start (length clients) t.requires in
+      omega (arith, within, h, t.loop-f.invariant.1.1.0.0, room)
 
   three : (k : ℕ) → k + 3 ≤ 24 → (length clients ≡ length row) × (f + k + 3 ≤ length clients) × Placed (length clients) start (f + k) (place + k)
-  three k h = (t.before.before.before.before.pre, omega (arith, within, h), placed_on _ _ _ _ k t.before.loop.inv.1.1.0)
+  three k h = (t.requires, omega (arith, within, h), placed_on _ _ _ _ k t.loop-f.invariant.1.1.0)
 
-sub-whole : tie.Need-overflow-sub-whole invariant-loop decreases-loop
+sub-whole : tie.Need-overflow_sub-whole invariant-loop decreases-loop
 sub-whole c = search rules
 
-loop-holds : tie.Need-loop-init invariant-loop decreases-loop
+loop-holds : tie.Need-loop-f-init invariant-loop decreases-loop
 unfolding those
 loop-holds c =
     (omega arith, (refl, (placed-start _ _, refl)))
 
-add-next : tie.Need-overflow-add-next invariant-loop decreases-loop
+add-next : tie.Need-overflow_add-next invariant-loop decreases-loop
 add-next c = search rules
 
-add-next-place : tie.Need-overflow-add-next-place invariant-loop decreases-loop
+add-next-place : tie.Need-overflow_add-next_place invariant-loop decreases-loop
 add-next-place c = place-fits c 24 (omega arith)
 
-found-three-requires : tie.Need-found-three-requires invariant-loop decreases-loop
-found-three-requires c κs = (c.before.before.before.before.requires, omega (arith, within c), c.before.loop.invariant.1.1.0)
+found-three-requires : tie.Need-found_three-requires invariant-loop decreases-loop
+found-three-requires c κs = (c.requires, omega (arith, within c), c.loop-f.invariant.1.1.0)
 
-add-found-three : tie.Need-overflow-add-found-three invariant-loop decreases-loop
+add-found-three : tie.Need-overflow_add-place invariant-loop decreases-loop
 add-found-three c = place-fits c.before.before 3 (omega arith)
 
-add-found-three-2 : tie.Need-overflow-add-found-three-2 invariant-loop decreases-loop
+add-found-three-2 : tie.Need-overflow_add-f invariant-loop decreases-loop
 add-found-three-2 c = folder-fits c.before.before 3 (omega arith)
 
-found-three-requires-2 : tie.Need-found-three-requires-2 invariant-loop decreases-loop
+found-three-requires-2 : tie.Need-found_three-requires-else-found_three invariant-loop decreases-loop
 found-three-requires-2 c κs = three c.before.before 3 (omega arith)
 
-add-found-three-3 : tie.Need-overflow-add-found-three-3 invariant-loop decreases-loop
+add-found-three-3 : tie.Need-overflow_add-place-else-found_three-2 invariant-loop decreases-loop
 add-found-three-3 c = place-fits c.before.before.before.before 6 (omega arith)
 
-add-found-three-4 : tie.Need-overflow-add-found-three-4 invariant-loop decreases-loop
+add-found-three-4 : tie.Need-overflow_add-f-else-found_three-2 invariant-loop decreases-loop
 add-found-three-4 c = folder-fits c.before.before.before.before 6 (omega arith)
 
-found-three-requires-3 : tie.Need-found-three-requires-3 invariant-loop decreases-loop
+found-three-requires-3 : tie.Need-found_three-requires-else-found_three-2 invariant-loop decreases-loop
 found-three-requires-3 c κs = three c.before.before.before.before 6 (omega arith)
 
-add-found-three-5 : tie.Need-overflow-add-found-three-5 invariant-loop decreases-loop
+add-found-three-5 : tie.Need-overflow_add-place-else-found_three-3 invariant-loop decreases-loop
 add-found-three-5 c = place-fits c.before.before.before.before.before.before 9 (omega arith)
 
-add-found-three-6 : tie.Need-overflow-add-found-three-6 invariant-loop decreases-loop
+add-found-three-6 : tie.Need-overflow_add-f-else-found_three-3 invariant-loop decreases-loop
 add-found-three-6 c = folder-fits c.before.before.before.before.before.before 9 (omega arith)
 
-found-three-requires-4 : tie.Need-found-three-requires-4 invariant-loop decreases-loop
+found-three-requires-4 : tie.Need-found_three-requires-else-found_three-3 invariant-loop decreases-loop
 found-three-requires-4 c κs = three c.before.before.before.before.before.before 9 (omega arith)
 
-add-found-three-7 : tie.Need-overflow-add-found-three-7 invariant-loop decreases-loop
+add-found-three-7 : tie.Need-overflow_add-place-else-found_three-4 invariant-loop decreases-loop
 add-found-three-7 c = place-fits c.before.before.before.before.before.before.before.before 12 (omega arith)
 
-add-found-three-8 : tie.Need-overflow-add-found-three-8 invariant-loop decreases-loop
+add-found-three-8 : tie.Need-overflow_add-f-else-found_three-4 invariant-loop decreases-loop
 add-found-three-8 c = folder-fits c.before.before.before.before.before.before.before.before 12 (omega arith)
 
-found-three-requires-5 : tie.Need-found-three-requires-5 invariant-loop decreases-loop
+found-three-requires-5 : tie.Need-found_three-requires-else-found_three-4 invariant-loop decreases-loop
 found-three-requires-5 c κs = three c.before.before.before.before.before.before.before.before 12 (omega arith)
 
-add-found-three-9 : tie.Need-overflow-add-found-three-9 invariant-loop decreases-loop
+add-found-three-9 : tie.Need-overflow_add-place-else-found_three-5 invariant-loop decreases-loop
 add-found-three-9 c = place-fits c.before.before.before.before.before.before.before.before.before.before 15 (omega arith)
 
-add-found-three-10 : tie.Need-overflow-add-found-three-10 invariant-loop decreases-loop
+add-found-three-10 : tie.Need-overflow_add-f-else-found_three-5 invariant-loop decreases-loop
 add-found-three-10 c = folder-fits c.before.before.before.before.before.before.before.before.before.before 15 (omega arith)
 
-found-three-requires-6 : tie.Need-found-three-requires-6 invariant-loop decreases-loop
+found-three-requires-6 : tie.Need-found_three-requires-else-found_three-5 invariant-loop decreases-loop
 found-three-requires-6 c κs = three c.before.before.before.before.before.before.before.before.before.before 15 (omega arith)
 
-add-found-three-11 : tie.Need-overflow-add-found-three-11 invariant-loop decreases-loop
+add-found-three-11 : tie.Need-overflow_add-place-else-found_three-6 invariant-loop decreases-loop
 add-found-three-11 c = place-fits c.before.before.before.before.before.before.before.before.before.before.before.before 18 (omega arith)
 
-add-found-three-12 : tie.Need-overflow-add-found-three-12 invariant-loop decreases-loop
+add-found-three-12 : tie.Need-overflow_add-f-else-found_three-6 invariant-loop decreases-loop
 add-found-three-12 c = folder-fits c.before.before.before.before.before.before.before.before.before.before.before.before 18 (omega arith)
 
-found-three-requires-7 : tie.Need-found-three-requires-7 invariant-loop decreases-loop
+found-three-requires-7 : tie.Need-found_three-requires-else-found_three-6 invariant-loop decreases-loop
 found-three-requires-7 c κs = three c.before.before.before.before.before.before.before.before.before.before.before.before 18 (omega arith)
 
-add-found-three-13 : tie.Need-overflow-add-found-three-13 invariant-loop decreases-loop
+add-found-three-13 : tie.Need-overflow_add-place-else-found_three-7 invariant-loop decreases-loop
 add-found-three-13 c = place-fits c.before.before.before.before.before.before.before.before.before.before.before.before.before.before 21 (omega arith)
 
-add-found-three-14 : tie.Need-overflow-add-found-three-14 invariant-loop decreases-loop
+add-found-three-14 : tie.Need-overflow_add-f-else-found_three-7 invariant-loop decreases-loop
 add-found-three-14 c = folder-fits c.before.before.before.before.before.before.before.before.before.before.before.before.before.before 21 (omega arith)
 
-found-three-requires-8 : tie.Need-found-three-requires-8 invariant-loop decreases-loop
+found-three-requires-8 : tie.Need-found_three-requires-else-found_three-7 invariant-loop decreases-loop
 found-three-requires-8 c κs = three c.before.before.before.before.before.before.before.before.before.before.before.before.before.before 21 (omega arith)
 
-first-from-requires : tie.Need-first-from-requires invariant-loop decreases-loop
+first-from-requires : tie.Need-first_from-requires invariant-loop decreases-loop
 first-from-requires c κs =
-    let t = c.before.before in
-    (t.before.before.before.before.requires, (omega (arith, within t), t.before.loop.invariant.1.1.1, t.before.loop.invariant.1.1.0))
+    (c.requires, (omega (arith, within c.before.before), c.loop-f.invariant.1.1.1, c.loop-f.invariant.1.1.0))
 
-returns : tie.Need-returns invariant-loop decreases-loop
+returns : tie.Need-returns-then-found_three invariant-loop decreases-loop
 returns c = search rules
 
-loop-less : tie.Need-loop-smaller invariant-loop decreases-loop
+loop-less : tie.Need-loop-f-smaller invariant-loop decreases-loop
 loop-less c = search rules
 
-loop-again : tie.Need-loop-preserved invariant-loop decreases-loop
+loop-again : tie.Need-loop-f-preserved invariant-loop decreases-loop
 loop-again c =
-    let e7 = c.before.before in
-    let e6 = e7.before.before in
-    let e5 = e6.before.before in
-    let e4 = e5.before.before in
-    let e3 = e4.before.before in
-    let e2 = e3.before.before in
-    let e1 = e2.before.before in
-    let t = e1.before.before in
-    let i = t.before.loop.invariant in
-    let n = f t in
-    let p = read_marked (row t) (clients t) t.before.before.before.before.args.bits.now in
-    let none1 = those-none-three p n (n + 3) (omega arith) i.1.1.1 (rw (← e1.before.found-three.ensures) e1.if1.false) in
-    let none2 = those-none-three p (n + 3) (n + 6) (omega arith) none1 (rw (← e2.before.found-three2.ensures) e2.if2.false) in
-    let none3 = those-none-three p (n + 6) (n + 9) (omega arith) none2 (rw (← e3.before.found-three3.ensures) e3.if3.false) in
-    let none4 = those-none-three p (n + 9) (n + 12) (omega arith) none3 (rw (← e4.before.found-three4.ensures) e4.if4.false) in
-    let none5 = those-none-three p (n + 12) (n + 15) (omega arith) none4 (rw (← e5.before.found-three5.ensures) e5.if5.false) in
-    let none6 = those-none-three p (n + 15) (n + 18) (omega arith) none5 (rw (← e6.before.found-three6.ensures) e6.if6.false) in
-    let none7 = those-none-three p (n + 18) (n + 21) (omega arith) none6 (rw (← e7.before.found-three7.ensures) e7.if7.false) in
-    let none8 = those-none-three p (n + 21) (n + 24) (omega arith) none7 (rw (← c.before.found-three8.ensures) c.if8.false) in
-    (omega (arith, t.loop-test.true, i.0, i.1.0), (omega (arith, i.1.0), (placed_on _ _ _ _ 24 i.1.1.0, none8)))
+    let i = c.loop-f.invariant in
+    let n = f c.before.before.before.before.before.before.before.before.before.before.before.before.before.before.before.before in
+    let p = read_marked (row c.before.before.before.before.before.before.before.before.before.before.before.before.before.before.before.before) (clients c.before.before.before.before.before.before.before.before.before.before.before.before.before.before.before.before) c.args.bits.now in
+    let none1 = those-none-three p n (n + 3) (omega arith) i.1.1.1 (rw (← c.found_three.ensures) c.if-found_three.false) in
+    let none2 = those-none-three p (n + 3) (n + 6) (omega arith) none1 (rw (← c.found_three-else-found_three.ensures) c.if-found_three-2.false) in
+    let none3 = those-none-three p (n + 6) (n + 9) (omega arith) none2 (rw (← c.found_three-else-found_three-2.ensures) c.if-found_three-3.false) in
+    let none4 = those-none-three p (n + 9) (n + 12) (omega arith) none3 (rw (← c.found_three-else-found_three-3.ensures) c.if-found_three-4.false) in
+    let none5 = those-none-three p (n + 12) (n + 15) (omega arith) none4 (rw (← c.found_three-else-found_three-4.ensures) c.if-found_three-5.false) in
+    let none6 = those-none-three p (n + 15) (n + 18) (omega arith) none5 (rw (← c.found_three-else-found_three-5.ensures) c.if-found_three-6.false) in
+    let none7 = those-none-three p (n + 18) (n + 21) (omega arith) none6 (rw (← c.found_three-else-found_three-6.ensures) c.if-found_three-7.false) in
+    let none8 = those-none-three p (n + 21) (n + 24) (omega arith) none7 (rw (← c.found_three-else-found_three-7.ensures) c.if-found_three-8.false) in
+    (omega (arith, c.loop-f-test.true, i.0, i.1.0), (omega (arith, i.1.0), (placed_on _ _ _ _ 24 i.1.1.0, none8)))
 
-first-from-requires-2 : tie.Need-first-from-requires-2 invariant-loop decreases-loop
+first-from-requires-2 : tie.Need-first_from-requires-2 invariant-loop decreases-loop
 first-from-requires-2 c κs =
-    let i = c.before.loop.invariant in
-    (c.before.before.before.before.requires, (omega (arith, i.0), i.1.1.1, i.1.1.0))
+    let i = c.loop-f.invariant in
+    (c.requires, (omega (arith, i.0), i.1.1.1, i.1.1.0))
 
-returns-2 : tie.Need-returns-2 invariant-loop decreases-loop
+returns-2 : tie.Need-returns invariant-loop decreases-loop
 returns-2 c =
-    c.first-from2.ensures
+    c.first_from-2.ensures
 
 pub first_spec : {M : Type 1} → statement M
 first_spec =

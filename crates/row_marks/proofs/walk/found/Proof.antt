@@ -5,28 +5,28 @@ use borrow.Author.Rules.{rules}
 use Rattle.row_marks.proofs.walk.found.Statement.{statement}
 use Rattle.row_marks.proofs.walk.found.Tie as tie
 
-shared-slice-read-cell : tie.Need-shared-slice-read-cell
+shared-slice-read-cell : tie.Need-bounds-matrix-place
 shared-slice-read-cell c =
-    let h = c.before.before.before.requires in
+    let h = c.requires in
     let w = placed-within _ _ _ _ _ _ (sym h.0) h.2 h.1 in
     search rules
 
-mul-t11 : tie.Need-overflow-mul-t11
+mul-t11 : tie.Need-offset_bounds-clients-f
 mul-t11 c = search rules
 
-shared-slice-read-t13 : tie.Need-shared-slice-read-t13
+shared-slice-read-t13 : tie.Need-bounds-clients-f
 shared-slice-read-t13 c = search rules
 
-bits-from-requires : tie.Need-bits-from-requires
+bits-from-requires : tie.Need-bits_from-requires
 bits-from-requires c κs = search rules
 
-read-and-marked-requires : tie.Need-read-and-marked-requires
+read-and-marked-requires : tie.Need-read_and_marked-requires
 read-and-marked-requires c κs = search rules
 
 returns : tie.Need-returns
 returns c =
-    let h = c.before.before.before.before.before.before.requires in
-    rw (c.read-and-marked.ensures, c.before.bits-from.ensures, cell-placed _ _ _ _ _ h.2 h.1)
+    let h = c.requires in
+    rw (c.read_and_marked.ensures, c.bits_from.ensures, cell-placed _ _ _ _ _ h.2 h.1)
 
 pub found_spec : {M : Type 1} → statement M
 found_spec =

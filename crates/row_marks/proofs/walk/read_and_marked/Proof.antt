@@ -7,7 +7,7 @@ use borrow.Author.Rules.{rules}
 use Rattle.row_marks.proofs.walk.read_and_marked.Statement.{statement}
 use Rattle.row_marks.proofs.walk.read_and_marked.Tie as tie
 
-cast-result : tie.Need-overflow-cast-result
+cast-result : tie.Need-overflow_cast-result
 cast-result c = search rules
 
 returns : tie.Need-returns
