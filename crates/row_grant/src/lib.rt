@@ -5,7 +5,7 @@
 
 ghost use Rattle.std.specs.Prelude.{◌+◌, ◌≡◌, length};
 ghost use Rattle.vocabulary.specs.Each.{each};
-ghost use Rattle.vocabulary.specs.Place.{row_in, lent_row, with_row_at};
+ghost use Rattle.vocabulary.specs.Place.{row_at, with_row_at};
 ghost use Rattle.register.specs.Lent.{lent_folders};
 ghost use Rattle.row_labels.specs.Cut.{Alongside};
 ghost use Rattle.row_grant.specs.Granted.{row_granted, cell_with, cell_entered};
@@ -23,8 +23,8 @@ fn cell_with(cell: u8, kind: u16) -> u8
 
 // Takes the write rights at stake back, if the kind does. What the walk has passed is changed, the rest is as it was.
 fn take_back(matrix: &mut [u8], start: usize, classes: &[u16], clients: &[u16], o: Label, kind: u16)
-    requires { Alongside (row_in matrix start classes) classes.now clients.now }
-    ensures { matrix.new ≡ with_row_at matrix.old start (length classes.now) (each (taken_at classes.now clients.now o kind) (lent_row matrix start classes)) }
+    requires { Alongside (row_at matrix.old start (length classes.now)) classes.now clients.now }
+    ensures { matrix.new ≡ with_row_at matrix.old start (length classes.now) (each (taken_at classes.now clients.now o kind) (row_at matrix.old start (length classes.now))) }
 {
     let mut place = start;
     let mut f = 0;
@@ -61,7 +61,7 @@ pub fn grant(
     folder: FolderNo,
     kind: u16,
 )
-    ensures { matrix.new ≡ with_row_at matrix.old start (length classes.now) (row_granted (lent_folders classes clients) (lent_row matrix start classes) folder.0 kind) }
+    ensures { matrix.new ≡ with_row_at matrix.old start (length classes.now) (row_granted (lent_folders classes clients) (row_at matrix.old start (length classes.now)) folder.0 kind) }
 {
     if !row_labels::fits(matrix, start, classes, clients, folder) {
         return;

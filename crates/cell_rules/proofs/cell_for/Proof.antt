@@ -16,16 +16,16 @@ cell-of-bytes true false = refl
 cell-of-bytes false true = refl
 cell-of-bytes false false = refl
 
-cast-result : tie.Need-overflow-cast-result
+cast-result : tie.Need-overflow_cast-result
 cast-result c = search rules
 
-cast-result-2 : tie.Need-overflow-cast-result-2
+cast-result-2 : tie.Need-overflow_cast-result-2
 cast-result-2 c = search rules
 
-mul-result : tie.Need-overflow-mul-result
+mul-result : tie.Need-overflow_mul-result
 mul-result c = omega (arith, bool_byte-most c.args.write)
 
-add-result : tie.Need-overflow-add-result
+add-result : tie.Need-overflow_add-result
 add-result c = omega (arith, bool_byte-most c.args.read, bool_byte-most c.args.write)
 
 returns : tie.Need-returns

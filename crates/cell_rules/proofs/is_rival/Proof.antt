@@ -3,15 +3,15 @@ use borrow.Author.Rules.{rules}
 use Rattle.cell_rules.proofs.is_rival.Statement.{statement}
 use Rattle.cell_rules.proofs.is_rival.Tie as tie
 
-one-class-requires : tie.Need-one-class-requires
+one-class-requires : tie.Need-one_class-requires
 one-class-requires c κs = search rules
 
-other-client-requires : tie.Need-other-client-requires
+other-client-requires : tie.Need-other_client-requires
 other-client-requires c κs = search rules
 
 returns : tie.Need-returns
 returns c =
-    rw (c.before.one_class.ensures, c.other-client.ensures)
+    rw (c.one_class.ensures, c.other_client.ensures)
 
 pub is_rival_spec : {M : Type 1} → statement M
 is_rival_spec = tie.close (tie.spec one-class-requires other-client-requires returns)

@@ -5,15 +5,15 @@ use borrow.Author.Rules.{rules}
 use Rattle.row_grant.proofs.cell_with.Statement.{statement}
 use Rattle.row_grant.proofs.cell_with.Tie as tie
 
-labelled-requires : tie.Need-labelled-requires
+labelled-requires : tie.Need-labelled-label-requires
 labelled-requires c κs = search rules
 
-cell-left-requires : tie.Need-cell-left-requires
+cell-left-requires : tie.Need-cell_left-requires
 cell-left-requires c κs = search rules
 
 returns : tie.Need-returns
 returns c =
-    c.cell-left.ensures ∙ own-asked c.before.before.args.cell c.before.labelled.result c.before.before.args.kind
+    c.cell_left.ensures ∙ own-asked c.args.cell c.labelled-label.result c.args.kind
 
 pub cell_with_spec : {M : Type 1} → statement M
 cell_with_spec = tie.close (tie.spec labelled-requires cell-left-requires returns)

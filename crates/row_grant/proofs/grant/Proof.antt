@@ -11,31 +11,31 @@ use Rattle.row_grant.proofs.grant.Tie as tie
 fits-requires : tie.Need-fits-requires
 fits-requires c κs = search rules
 
-same_length : tie.Need-same-length
+same_length : tie.Need-shape_of-matrix-then-not-fits
 same_length c = search rules
 
-returns : tie.Need-returns
+returns : tie.Need-returns-then-not-fits
 returns c =
-    let a = c.before.before.before.before.before.before.args in
-    unfit-left _ a.matrix.now a.start _ _ (sym c.before.fits2.ensures ∙ not-true _ c.if1.true)
+    let a = c.args in
+    unfit-left _ a.matrix.now a.start _ _ (sym c.fits.ensures ∙ c.if-not-fits.true)
 
-label-of-requires : tie.Need-label-of-requires
+label-of-requires : tie.Need-label_of-o-requires
 label-of-requires c κs = search rules
 
-take-back-requires : tie.Need-take-back-requires
+take-back-requires : tie.Need-take_back-requires
 take-back-requires c κs =
-    (fits-are _ _ _ (sym c.before.before.before.fits2.ensures ∙ not-false _ c.before.before.if1.false)).0
+    (fits-are _ _ _ (sym c.fits.ensures ∙ c.if-not-fits.false)).0
 
 enter-requires : tie.Need-enter-requires
 enter-requires c κs = search rules
 
-same-length-2 : tie.Need-same-length-2
+same-length-2 : tie.Need-shape_of-matrix
 same-length-2 c = search rules
 
-returns-2 : tie.Need-returns-2
+returns-2 : tie.Need-returns
 returns-2 c =
-    let a = c.before.before.before.before.before.before.before.before.before.before.before.before.before.before.before.args in
-    c.before.before.enter.ensures ∙ rw c.before.before.before.before.before.before.take_back.ensures (taken-entered _ a.matrix.now a.start _ _ (sym c.before.before.before.before.before.before.before.before.before.before.fits2.ensures ∙ not-false _ c.before.before.before.before.before.before.before.before.before.if1.false) _ c.before.before.before.before.before.before.before.before.label_of.ensures)
+    let a = c.args in
+    c.enter.ensures ∙ rw c.take_back.ensures (taken-entered _ a.matrix.now a.start _ _ (sym c.fits.ensures ∙ c.if-not-fits.false) _ c.label_of-o.ensures)
 
 pub grant_spec : {M : Type 1} → statement M
 grant_spec =

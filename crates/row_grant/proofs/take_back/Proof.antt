@@ -27,73 +27,73 @@ next g m₀ m start n f place p h e =
     inside : f < length part
     inside = rw whole h
 
-abbrev invariant-loop : tie.invariant-loop
+abbrev invariant-loop : tie.invariant-loop-f
 invariant-loop matrix₀ start classes clients o kind place₀ f₀ matrix place f =
     (f ≤ length classes) × (Placed (length classes) start f place × ((length matrix ≡ length matrix₀) × (matrix ≡ with_row_at matrix₀ start (length classes) (up_to (taken_at classes clients o kind) f (row_at matrix₀ start (length classes))))))
 
-abbrev decreases-loop : tie.decreases-loop
+abbrev decreases-loop : tie.decreases-loop-f
 decreases-loop matrix₀ start classes clients o kind place₀ f₀ matrix place f =
     length classes - f
 
-loop-holds : tie.Need-loop-init invariant-loop decreases-loop
+loop-holds : tie.Need-loop-f-init invariant-loop decreases-loop
 unfolding up_to
 loop-holds c =
-    let a = c.before.before.before.args in
+    let a = c.args in
     (omega arith, (placed-start _ _, (refl, sym (with_row_at-row_at a.matrix.now a.start (length a.classes.now)))))
 
-slice-read-cell : tie.Need-slice-read-cell invariant-loop decreases-loop
+slice-read-cell : tie.Need-bounds-matrix-place invariant-loop decreases-loop
 slice-read-cell c =
-    let w = placed-within _ _ _ _ _ _ (sym c.before.before.before.before.before.before.requires.0) c.before.before.loop.invariant.1.0 c.before.loop-test.true in
+    let w = placed-within _ _ _ _ _ _ (sym c.requires.0) c.loop-f.invariant.1.0 c.loop-f-test.true in
     search rules
 
-mul-class : tie.Need-overflow-mul-class invariant-loop decreases-loop
+mul-class : tie.Need-offset_bounds-classes-f invariant-loop decreases-loop
 mul-class c = search rules
 
-shared-slice-read-class : tie.Need-shared-slice-read-class invariant-loop decreases-loop
+shared-slice-read-class : tie.Need-bounds-classes-f invariant-loop decreases-loop
 shared-slice-read-class c = search rules
 
-mul-client : tie.Need-overflow-mul-client invariant-loop decreases-loop
+mul-client : tie.Need-offset_bounds-clients-f invariant-loop decreases-loop
 mul-client c = search rules
 
-shared-slice-read-client : tie.Need-shared-slice-read-client invariant-loop decreases-loop
+shared-slice-read-client : tie.Need-bounds-clients-f invariant-loop decreases-loop
 shared-slice-read-client c = search rules
 
-labelled-requires : tie.Need-labelled-requires invariant-loop decreases-loop
+labelled-requires : tie.Need-labelled-label-requires invariant-loop decreases-loop
 labelled-requires c κs = search rules
 
-cell-left-requires : tie.Need-cell-left-requires invariant-loop decreases-loop
+cell-left-requires : tie.Need-cell_left-requires invariant-loop decreases-loop
 cell-left-requires c κs = search rules
 
-slice-write-matrix : tie.Need-slice-write-matrix invariant-loop decreases-loop
+slice-write-matrix : tie.Need-bounds-matrix-place-in-loop-f invariant-loop decreases-loop
 slice-write-matrix c =
-    let w = placed-within _ _ _ _ _ _ (sym c.before.before.before.before.before.before.before.before.before.before.requires.0) c.before.before.before.before.before.before.loop.invariant.1.0 c.before.before.before.before.before.loop-test.true in
+    let w = placed-within _ _ _ _ _ _ (sym c.requires.0) c.loop-f.invariant.1.0 c.loop-f-test.true in
     search rules
 
-add-place : tie.Need-overflow-add-place invariant-loop decreases-loop
+add-place : tie.Need-overflow_add-place invariant-loop decreases-loop
 add-place c =
-    let w = placed-within _ _ _ _ _ _ (sym c.before.before.before.before.before.before.before.before.before.before.requires.0) c.before.before.before.before.before.before.loop.invariant.1.0 c.before.before.before.before.before.loop-test.true in
+    let w = placed-within _ _ _ _ _ _ (sym c.requires.0) c.loop-f.invariant.1.0 c.loop-f-test.true in
     search rules
 
-add-f : tie.Need-overflow-add-f invariant-loop decreases-loop
+add-f : tie.Need-overflow_add-f invariant-loop decreases-loop
 add-f c = search rules
 
-loop-less : tie.Need-loop-smaller invariant-loop decreases-loop
+loop-less : tie.Need-loop-f-smaller invariant-loop decreases-loop
 loop-less c = search rules
 
-loop-again : tie.Need-loop-preserved invariant-loop decreases-loop
+loop-again : tie.Need-loop-f-preserved invariant-loop decreases-loop
 loop-again c =
-    let a = c.before.before.before.before.before.before.before.before.before.before.args in
-    let i = c.before.before.before.before.before.before.loop.invariant in
-    (omega arith, (placed-next _ _ _ _ i.1.0, (rw length-set i.1.1.0, rw (c.cell-left.ensures, c.before.labelled.ensures) (next (taken_at a.classes.now a.clients.now a.o a.kind) _ _ _ _ _ _ i.1.0 (rw (← c.before.before.before.before.before.before.before.before.before.before.requires.0) c.before.before.before.before.before.loop-test.true) i.1.1.1))))
+    let a = c.args in
+    let i = c.loop-f.invariant in
+    (omega arith, (placed-next _ _ _ _ i.1.0, (rw length-set i.1.1.0, rw (c.cell_left.ensures, c.labelled-label.ensures) (next (taken_at a.classes.now a.clients.now a.o a.kind) _ _ _ _ _ _ i.1.0 (rw (← c.requires.0) c.loop-f-test.true) i.1.1.1))))
 
-same_length : tie.Need-same-length invariant-loop decreases-loop
+same_length : tie.Need-shape_of-matrix invariant-loop decreases-loop
 same_length c = search rules
 
 returns : tie.Need-returns invariant-loop decreases-loop
 returns c =
-    let a = c.before.before.before.before.before.args in
-    let e : c.before.loop.f ≡ length (row_at a.matrix.now a.start (length a.classes.now)) = omega arith in
-    c.before.loop.invariant.1.1.1 ∙ rw (e, up_to-all)
+    let a = c.args in
+    let e : c.loop-f.f ≡ length (row_at a.matrix.now a.start (length a.classes.now)) = omega arith in
+    c.loop-f.invariant.1.1.1 ∙ rw (e, up_to-all)
 
 pub take_back_spec : {M : Type 1} → statement M
 take_back_spec =

@@ -7,20 +7,20 @@ use Rattle.row_pairs.proofs.Fours.{get_d-within}
 use Rattle.row_pairs.proofs.groups.at_or.Statement.{statement}
 use Rattle.row_pairs.proofs.groups.at_or.Tie as tie
 
-mul-t6 : tie.Need-overflow-mul-t6
+mul-t6 : tie.Need-offset_bounds-list-place
 mul-t6 c = search rules
 
-element-copy-out-t9 : tie.Need-element-copy-out-t9
+element-copy-out-t9 : tie.Need-bounds-list-place
 element-copy-out-t9 c = search rules
 
-returns : tie.Need-returns
+returns : tie.Need-returns-then-place-n
 returns c =
-    let a = c.before.before.args in
-    sym (get_d-within a.n a.list.now a.place _ 0 c.before.if1.true (omega arith))
+    let a = c.args in
+    sym (get_d-within a.n a.list.now a.place _ 0 c.if-place-n.true (omega arith))
 
-returns-2 : tie.Need-returns-2
+returns-2 : tie.Need-returns
 returns-2 c =
-    let a = c.before.args in
+    let a = c.args in
     sym (get_or-eq_default (take a.n a.list.now) _ (rw length-take (omega arith)))
 
 pub at_or_spec : {M : Type 1} → statement M

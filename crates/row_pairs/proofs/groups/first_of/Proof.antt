@@ -13,62 +13,60 @@ use Rattle.row_pairs.specs.Among.{one_of, readable_with}
 use Rattle.row_pairs.proofs.groups.first_of.Statement.{statement}
 use Rattle.row_pairs.proofs.groups.first_of.Tie as tie
 
-abbrev invariant-loop : tie.invariant-loop
+abbrev invariant-loop : tie.invariant-loop-f
 invariant-loop matrix start clients g place from to at₀ f₀ at f =
     (f ≤ to) × (Placed (length clients) start f at × (those (readable_with (one_of g) (row_at matrix start (length clients)) clients) f ≡ []))
 
-abbrev decreases-loop : tie.decreases-loop
+abbrev decreases-loop : tie.decreases-loop-f
 decreases-loop matrix start clients g place from to at₀ f₀ at f = to - f
 
 -- A folder that the loop looks at is in the row, and its place in the matrix.
-module _ (t : tie.In-loop invariant-loop decreases-loop) where
-  folder : t.before.loop.f < length t.before.before.before.before.args.clients.now
-  folder = omega (arith, t.loop-test.true, t.before.before.before.before.requires.2)
+module _ (t : tie.In-loop-f invariant-loop decreases-loop) where
+  folder : t.loop-f.f < length t.args.clients.now
+  folder = omega (arith, t.loop-f-test.true, t.requires.2)
 
-  place : t.before.loop.at < length t.before.before.before.before.args.matrix.now
-  place = placed-within _ _ _ _ _ _ (sym t.before.before.before.before.pre.0) t.before.loop.inv.1.0 folder
+  place : t.loop-f.at < length t.args.matrix.now
+  place = placed-within _ _ _ _ _ _ (sym t.requires.0) t.loop-f.invariant.1.0 folder
 
-loop-holds : tie.Need-loop-init invariant-loop decreases-loop
+loop-holds : tie.Need-loop-f-init invariant-loop decreases-loop
 loop-holds c =
-    let h = c.before.before.requires in
+    let h = c.requires in
     (h.1, (h.4, h.3))
 
-shared-slice-read-cell : tie.Need-shared-slice-read-cell invariant-loop decreases-loop
+shared-slice-read-cell : tie.Need-bounds-matrix-at invariant-loop decreases-loop
 shared-slice-read-cell c = let w = place c.before in search rules
 
-mul-client : tie.Need-overflow-mul-client invariant-loop decreases-loop
+mul-client : tie.Need-offset_bounds-clients-f invariant-loop decreases-loop
 mul-client c = search rules
 
-shared-slice-read-client : tie.Need-shared-slice-read-client invariant-loop decreases-loop
+shared-slice-read-client : tie.Need-bounds-clients-f invariant-loop decreases-loop
 shared-slice-read-client c = let w = folder c.before.before in search rules
 
-readable-of-requires : tie.Need-readable-of-requires invariant-loop decreases-loop
+readable-of-requires : tie.Need-readable_of-requires invariant-loop decreases-loop
 readable-of-requires c κs = search rules
 
-returns : tie.Need-returns invariant-loop decreases-loop
+returns : tie.Need-returns-then-readable_of invariant-loop decreases-loop
 returns c =
-    let t = c.before.before.before.before in
-    let i = t.before.loop.invariant in
-    sym (first_found _ _ _ _ i.1.1 (rw (← cell-placed _ _ _ _ _ i.1.0 (folder t), ← c.before.Readable-of.ensures) c.if1.true) t.loop-test.true)
+    let i = c.loop-f.invariant in
+    sym (first_found _ _ _ _ i.1.1 (rw (← cell-placed _ _ _ _ _ i.1.0 (folder c.before.before.before.before), ← c.readable_of.ensures) c.if-readable_of.true) c.loop-f-test.true)
 
-add_at : tie.Need-overflow-add-at invariant-loop decreases-loop
+add_at : tie.Need-overflow_add-at invariant-loop decreases-loop
 add_at c = let w = place c.before.before.before.before in search rules
 
-add-f : tie.Need-overflow-add-f invariant-loop decreases-loop
+add-f : tie.Need-overflow_add-f invariant-loop decreases-loop
 add-f c = search rules
 
-loop-less : tie.Need-loop-smaller invariant-loop decreases-loop
+loop-less : tie.Need-loop-f-smaller invariant-loop decreases-loop
 loop-less c = search rules
 
-loop-again : tie.Need-loop-preserved invariant-loop decreases-loop
+loop-again : tie.Need-loop-f-preserved invariant-loop decreases-loop
 loop-again c =
-    let t = c.before.before.before.before in
-    let i = t.before.loop.invariant in
-    (omega arith, (placed-next _ _ _ _ i.1.0, those-none _ _ i.1.1 (rw (← cell-placed _ _ _ _ _ i.1.0 (folder t), ← c.before.Readable-of.ensures) c.if1.false)))
+    let i = c.loop-f.invariant in
+    (omega arith, (placed-next _ _ _ _ i.1.0, those-none _ _ i.1.1 (rw (← cell-placed _ _ _ _ _ i.1.0 (folder c.before.before.before.before), ← c.readable_of.ensures) c.if-readable_of.false)))
 
-returns-2 : tie.Need-returns-2 invariant-loop decreases-loop
+returns-2 : tie.Need-returns invariant-loop decreases-loop
 returns-2 c =
-    sym (first-end _ _ _ c.before.loop.invariant.1.1 c.before.loop.invariant.0 c.loop-test.false)
+    sym (first-end _ _ _ c.loop-f.invariant.1.1 c.loop-f.invariant.0 c.loop-f-test.false)
 
 pub first_of_spec : {M : Type 1} → statement M
 first_of_spec =

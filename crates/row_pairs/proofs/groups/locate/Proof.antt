@@ -13,52 +13,51 @@ use Rattle.row_pairs.specs.Among.{one_of, readable_with}
 use Rattle.row_pairs.proofs.groups.locate.Statement.{statement}
 use Rattle.row_pairs.proofs.groups.locate.Tie as tie
 
-abbrev invariant-loop : tie.invariant-loop
+abbrev invariant-loop : tie.invariant-loop-f
 invariant-loop matrix start clients g to place₀ f₀ place f =
     (f ≤ to) × (Placed (length clients) start f place × (those (readable_with (one_of g) (row_at matrix start (length clients)) clients) f ≡ []))
 
-abbrev decreases-loop : tie.decreases-loop
+abbrev decreases-loop : tie.decreases-loop-f
 decreases-loop matrix start clients g to place₀ f₀ place f = to - f
 
-loop-holds : tie.Need-loop-init invariant-loop decreases-loop
+loop-holds : tie.Need-loop-f-init invariant-loop decreases-loop
 unfolding those
 loop-holds c = (omega arith, (placed-start _ _, refl))
 
-sub-loop : tie.Need-overflow-sub-loop invariant-loop decreases-loop
+sub-loop : tie.Need-overflow_sub-to invariant-loop decreases-loop
 sub-loop c = search rules
 
-add-any-of : tie.Need-overflow-add-any-of invariant-loop decreases-loop
+add-any-of : tie.Need-overflow_add-f invariant-loop decreases-loop
 add-any-of c = search rules
 
-any-of-requires : tie.Need-any-of-requires invariant-loop decreases-loop
+any-of-requires : tie.Need-any_of-requires invariant-loop decreases-loop
 any-of-requires c κs = search rules
 
-first-of-requires : tie.Need-first-of-requires invariant-loop decreases-loop
+first-of-requires : tie.Need-first_of-requires invariant-loop decreases-loop
 first-of-requires c κs = search rules
 
-returns : tie.Need-returns invariant-loop decreases-loop
+returns : tie.Need-returns-then-any_of invariant-loop decreases-loop
 returns c = search rules
 
-add-place : tie.Need-overflow-add-place invariant-loop decreases-loop
+add-place : tie.Need-overflow_add-place invariant-loop decreases-loop
 add-place c =
-    let s = c.before.before.before.before.before.before in
-    let room = row_at-room s.args.matrix.now s.args.start (length s.args.clients.now) s.requires.0 in
-    omega (arith, room, s.requires.1, c.before.before.before.loop.invariant.1.0.0)
+    let room = row_at-room c.args.matrix.now c.args.start (length c.args.clients.now) c.requires.0 in
+    omega (arith, room, c.requires.1, c.loop-f.invariant.1.0.0)
 
-add-f : tie.Need-overflow-add-f invariant-loop decreases-loop
+add-f : tie.Need-overflow_add-f-in-loop-f invariant-loop decreases-loop
 add-f c = search rules
 
-loop-less : tie.Need-loop-smaller invariant-loop decreases-loop
+loop-less : tie.Need-loop-f-smaller invariant-loop decreases-loop
 loop-less c = search rules
 
-loop-again : tie.Need-loop-preserved invariant-loop decreases-loop
+loop-again : tie.Need-loop-f-preserved invariant-loop decreases-loop
 loop-again c =
-    (omega arith, (placed_on _ _ _ _ 32 c.before.before.before.loop.invariant.1.0, some-none _ (sym c.before.any_of.ensures ∙ c.if1.false)))
+    (omega arith, (placed_on _ _ _ _ 32 c.loop-f.invariant.1.0, some-none _ (sym c.any_of.ensures ∙ c.if-any_of.false)))
 
-first-of-requires-2 : tie.Need-first-of-requires-2 invariant-loop decreases-loop
+first-of-requires-2 : tie.Need-first_of-requires-2 invariant-loop decreases-loop
 first-of-requires-2 c κs = search rules
 
-returns-2 : tie.Need-returns-2 invariant-loop decreases-loop
+returns-2 : tie.Need-returns invariant-loop decreases-loop
 returns-2 c = search rules
 
 pub locate_spec : {M : Type 1} → statement M

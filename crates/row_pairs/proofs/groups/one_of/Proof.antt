@@ -3,21 +3,21 @@ use borrow.Author.Rules.{rules}
 use Rattle.row_pairs.proofs.groups.one_of.Statement.{statement}
 use Rattle.row_pairs.proofs.groups.one_of.Tie as tie
 
-same-client-requires : tie.Need-same-client-requires
+same-client-requires : tie.Need-same_client-requires
 same-client-requires c κs = search rules
 
-same-client-requires-2 : tie.Need-same-client-requires-2
+same-client-requires-2 : tie.Need-same_client-requires-2
 same-client-requires-2 c κs = search rules
 
-same-client-requires-3 : tie.Need-same-client-requires-3
+same-client-requires-3 : tie.Need-same_client-requires-3
 same-client-requires-3 c κs = search rules
 
-same-client-requires-4 : tie.Need-same-client-requires-4
+same-client-requires-4 : tie.Need-same_client-requires-4
 same-client-requires-4 c κs = search rules
 
 returns : tie.Need-returns
 returns c =
-    rw (c.before.before.before.same-client.ensures, c.before.before.same-client2.ensures, c.before.same-client3.ensures, c.same-client4.ensures)
+    rw (c.same_client.ensures, c.same_client-2.ensures, c.same_client-3.ensures, c.same_client-4.ensures)
 
 pub one_of_spec : {M : Type 1} → statement M
 one_of_spec =

@@ -12,53 +12,53 @@ use Rattle.row_pairs.proofs.Opponents.{length-those-suc}
 use Rattle.row_pairs.proofs.listing.count_named.Statement.{statement}
 use Rattle.row_pairs.proofs.listing.count_named.Tie as tie
 
-abbrev invariant-loop : tie.invariant-loop
+abbrev invariant-loop : tie.invariant-loop-i
 invariant-loop firsts seconds client count₀ i₀ count i =
     (i ≤ length firsts) × (count ≤ i) × (count ≡ length (those (names firsts seconds client.0) i))
 
-abbrev decreases-loop : tie.decreases-loop
+abbrev decreases-loop : tie.decreases-loop-i
 decreases-loop firsts seconds client count₀ i₀ count i = length firsts - i
 
-loop-holds : tie.Need-loop-init invariant-loop decreases-loop
+loop-holds : tie.Need-loop-i-init invariant-loop decreases-loop
 unfolding those
 loop-holds c =
     (omega arith, omega arith, refl)
 
-mul-first : tie.Need-overflow-mul-first invariant-loop decreases-loop
+mul-first : tie.Need-offset_bounds-firsts-i invariant-loop decreases-loop
 mul-first c = search rules
 
-shared-slice-read-first : tie.Need-shared-slice-read-first invariant-loop decreases-loop
+shared-slice-read-first : tie.Need-bounds-firsts-i invariant-loop decreases-loop
 shared-slice-read-first c = search rules
 
-mul-second : tie.Need-overflow-mul-second invariant-loop decreases-loop
+mul-second : tie.Need-offset_bounds-seconds-i invariant-loop decreases-loop
 mul-second c = search rules
 
-shared-slice-read-second : tie.Need-shared-slice-read-second invariant-loop decreases-loop
+shared-slice-read-second : tie.Need-bounds-seconds-i invariant-loop decreases-loop
 shared-slice-read-second c = search rules
 
 names-requires : tie.Need-names-requires invariant-loop decreases-loop
 names-requires c κs = search rules
 
-cast-count : tie.Need-overflow-cast-count invariant-loop decreases-loop
+cast-count : tie.Need-overflow_cast-count invariant-loop decreases-loop
 cast-count c = search rules
 
-add-count : tie.Need-overflow-add-count invariant-loop decreases-loop
+add-count : tie.Need-overflow_add-count invariant-loop decreases-loop
 add-count c = record { fits = omega (arith, bool_byte-most c.names.result) }
 
-add-i : tie.Need-overflow-add-i invariant-loop decreases-loop
+add-i : tie.Need-overflow_add-i invariant-loop decreases-loop
 add-i c = search rules
 
-loop-less : tie.Need-loop-smaller invariant-loop decreases-loop
+loop-less : tie.Need-loop-i-smaller invariant-loop decreases-loop
 loop-less c = search rules
 
-loop-again : tie.Need-loop-preserved invariant-loop decreases-loop
+loop-again : tie.Need-loop-i-preserved invariant-loop decreases-loop
 loop-again c =
-    let l = c.before.before.before.before.loop in
+    let l = c.loop-i in
     (omega arith, omega (arith, bool_byte-most c.names.result), rw (length-those-suc, c.names.ensures, l.invariant.2))
 
 returns : tie.Need-returns invariant-loop decreases-loop
 returns c =
-    c.before.loop.invariant.2 ∙ ap length (those-end _ _ _ c.loop-test.false c.before.loop.invariant.0)
+    c.loop-i.invariant.2 ∙ ap length (those-end _ _ _ c.loop-i-test.false c.loop-i.invariant.0)
 
 pub count_named_spec : {M : Type 1} → statement M
 count_named_spec =
