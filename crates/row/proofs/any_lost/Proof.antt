@@ -13,20 +13,20 @@ fits-requires c κs = search rules
 revokes-requires : tie.Need-revokes-requires
 revokes-requires c κs = search rules
 
-label-of-requires : tie.Need-label-of-requires
+label-of-requires : tie.Need-label_of-o-requires
 label-of-requires c κs = search rules
 
 exists-requires : tie.Need-exists-requires
 exists-requires c κs =
-    (fits-are _ _ _ (fits-first _ _ _ c.before.before.revokes.result c.before.before.before.fits2.ensures c.before.if1.true)).0
+    (fits-are _ _ _ (fits-first _ _ _ c.revokes.result c.fits.ensures c.if-fits-revokes.true)).0
 
-returns : tie.Need-returns
+returns : tie.Need-returns-then-fits-revokes
 returns c =
-    c.exists.ensures ∙ ap some (sym (lost-stakes _ _ _ _ c.before.before.before.before.fits2.ensures c.before.before.before.revokes.ensures c.before.before.if1.true _ c.before.label_of.ensures))
+    c.exists.ensures ∙ ap some (sym (lost-stakes _ _ _ _ c.fits.ensures c.revokes.ensures c.if-fits-revokes.true _ c.label_of-o.ensures))
 
-returns-2 : tie.Need-returns-2
+returns-2 : tie.Need-returns
 returns-2 c =
-    ap some (sym (lost-none _ _ _ _ c.before.before.fits2.ensures c.before.revokes.ensures c.if1.false))
+    ap some (sym (lost-none _ _ _ _ c.fits.ensures c.revokes.ensures c.if-fits-revokes.false))
 
 pub any_lost_spec : {M : Type 1} → statement M
 any_lost_spec =

@@ -6,60 +6,60 @@ use borrow.Author.Rules.{rules}
 use Rattle.row.proofs.decide_by_classes.Statement.{statement}
 use Rattle.row.proofs.decide_by_classes.Tie as tie
 
-lists-fit-requires : tie.Need-lists-fit-requires
+lists-fit-requires : tie.Need-lists_fit-requires
 lists-fit-requires c κs = search rules
 
-returns : tie.Need-returns
+returns : tie.Need-returns-then-not-lists_fit
 returns c =
-    λ firsts seconds. says-unfit _ _ _ _ (sym c.before.lists-fit.ensures ∙ not-true _ c.if1.true)
+    λ firsts seconds. says-unfit _ _ _ _ (sym c.lists_fit.ensures ∙ c.if-not-lists_fit.true)
 
-cast-if2 : tie.Need-overflow-cast-if2
+cast-if2 : tie.Need-overflow_cast-folder
 cast-if2 c = search rules
 
-returns-2 : tie.Need-returns-2
+returns-2 : tie.Need-returns-then-classes-folder
 returns-2 c =
-    let listed = sym c.before.before.before.lists-fit.ensures ∙ not-false _ c.before.before.if1.false in
-    λ firsts seconds. says-unknown _ _ _ _ listed refl c.if2.true
+    let listed = sym c.lists_fit.ensures ∙ c.if-not-lists_fit.false in
+    λ firsts seconds. says-unknown _ _ _ _ listed refl c.if-classes-folder.true
 
-label-of-requires : tie.Need-label-of-requires
+label-of-requires : tie.Need-label_of-o-requires
 label-of-requires c κs = search rules
 
-find-requires : tie.Need-find-requires
+find-requires : tie.Need-find-rival-requires
 find-requires c κs =
-    walked _ _ (sym c.before.before.before.before.lists-fit.ensures ∙ not-false _ c.before.before.before.if1.false)
+    walked _ _ (sym c.lists_fit.ensures ∙ c.if-not-lists_fit.false)
 
-folder-no-requires : tie.Need-folder-no-requires
+folder-no-requires : tie.Need-folder_no-requires
 folder-no-requires c κs =
-    search (rules, (walked _ _ (sym c.before.before.before.before.before.before.lists-fit.ensures ∙ not-false _ c.before.before.before.before.before.if1.false)).1)
+    search (rules, (walked _ _ (sym c.lists_fit.ensures ∙ c.if-not-lists_fit.false)).1)
 
-returns-3 : tie.Need-returns-3
+returns-3 : tie.Need-returns-then-rival-classes
 returns-3 c =
-    let listed = sym c.before.before.before.before.before.before.before.lists-fit.ensures ∙ not-false _ c.before.before.before.before.before.before.if1.false in
-    λ firsts seconds. rw c.folder-no.ensures (says-wall _ _ _ _ listed refl c.before.before.before.before.if2.false _ c.before.before.before.label_of.ensures c.before.before.find.ensures (ruled_past-rival _ _ _ (walked _ _ listed).0.0 _ _ c.before.if3.true))
+    let listed = sym c.lists_fit.ensures ∙ c.if-not-lists_fit.false in
+    λ firsts seconds. rw c.folder_no.ensures (says-wall _ _ _ _ listed refl c.if-classes-folder.false _ c.label_of-o.ensures c.find-rival.ensures (ruled_past-rival _ _ _ (walked _ _ listed).0.0 _ _ c.if-rival-classes.true))
 
 writes-requires : tie.Need-writes-requires
 writes-requires c κs = search rules
 
-rule-write-requires : tie.Need-rule-write-requires
+rule-write-requires : tie.Need-rule_write-requires
 rule-write-requires c κs =
-    walked _ _ (sym c.before.before.before.before.before.before.before.before.lists-fit.ensures ∙ not-false _ c.before.before.before.before.before.before.before.if1.false)
+    walked _ _ (sym c.lists_fit.ensures ∙ c.if-not-lists_fit.false)
 
-returns-4 : tie.Need-returns-4
+returns-4 : tie.Need-returns-then-writes
 returns-4 c =
-    let listed = sym c.before.before.before.before.before.before.before.before.before.lists-fit.ensures ∙ not-false _ c.before.before.before.before.before.before.before.before.if1.false in
-    let past = c.rule-write.ensures _ (sym c.before.before.writes.ensures ∙ c.before.if4.true) ∙ ruled_past-none _ _ _ (walked _ _ listed).0.0 _ _ c.before.before.before.if3.false in
-    λ firsts seconds. says-wall _ _ _ _ listed refl c.before.before.before.before.before.before.if2.false _ c.before.before.before.before.before.label_of.ensures c.before.before.before.before.find.ensures past
+    let listed = sym c.lists_fit.ensures ∙ c.if-not-lists_fit.false in
+    let past = c.rule_write.ensures _ (sym c.writes.ensures ∙ c.if-writes.true) ∙ ruled_past-none _ _ _ (walked _ _ listed).0.0 _ _ c.if-rival-classes.false in
+    λ firsts seconds. says-wall _ _ _ _ listed refl c.if-classes-folder.false _ c.label_of-o.ensures c.find-rival.ensures past
 
-rule-read-requires : tie.Need-rule-read-requires
+rule-read-requires : tie.Need-rule_read-requires
 rule-read-requires c κs =
-    let l = walked _ _ (sym c.before.before.before.before.before.before.before.before.lists-fit.ensures ∙ not-false _ c.before.before.before.before.before.before.before.if1.false) in
-    (l.0, l.1, sym c.before.writes.ensures ∙ c.if4.false)
+    let l = walked _ _ (sym c.lists_fit.ensures ∙ c.if-not-lists_fit.false) in
+    (l.0, l.1, sym c.writes.ensures ∙ c.if-writes.false)
 
-returns-5 : tie.Need-returns-5
+returns-5 : tie.Need-returns
 returns-5 c =
-    let listed = sym c.before.before.before.before.before.before.before.before.before.lists-fit.ensures ∙ not-false _ c.before.before.before.before.before.before.before.before.if1.false in
-    let past = c.rule-read.ensures ∙ ruled_past-none _ _ _ (walked _ _ listed).0.0 _ _ c.before.before.before.if3.false in
-    λ firsts seconds. says-wall _ _ _ _ listed refl c.before.before.before.before.before.before.if2.false _ c.before.before.before.before.before.label_of.ensures c.before.before.before.before.find.ensures past
+    let listed = sym c.lists_fit.ensures ∙ c.if-not-lists_fit.false in
+    let past = c.rule_read.ensures ∙ ruled_past-none _ _ _ (walked _ _ listed).0.0 _ _ c.if-rival-classes.false in
+    λ firsts seconds. says-wall _ _ _ _ listed refl c.if-classes-folder.false _ c.label_of-o.ensures c.find-rival.ensures past
 
 pub decide_by_classes_spec : {M : Type 1} → statement M
 decide_by_classes_spec =

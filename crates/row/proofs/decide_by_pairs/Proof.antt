@@ -7,55 +7,55 @@ use borrow.Author.Rules.{rules}
 use Rattle.row.proofs.decide_by_pairs.Statement.{statement}
 use Rattle.row.proofs.decide_by_pairs.Tie as tie
 
-lists-fit-requires : tie.Need-lists-fit-requires
+lists-fit-requires : tie.Need-lists_fit-requires
 lists-fit-requires c κs = search rules
 
-returns : tie.Need-returns
+returns : tie.Need-returns-then-not-lists_fit
 returns c =
-    says-unfit _ _ _ _ (sym c.before.lists-fit.ensures ∙ not-true _ c.if1.true)
+    says-unfit _ _ _ _ (sym c.lists_fit.ensures ∙ c.if-not-lists_fit.true)
 
-pairs-fit-requires : tie.Need-pairs-fit-requires
+pairs-fit-requires : tie.Need-pairs_fit-requires
 pairs-fit-requires c κs = search rules
 
-returns-2 : tie.Need-returns-2
+returns-2 : tie.Need-returns-then-not-pairs_fit
 returns-2 c =
-    let listed = sym c.before.before.before.lists-fit.ensures ∙ not-false _ c.before.before.if1.false in
-    says-pairs _ _ _ _ listed (ap not (sym c.before.pairs-fit.ensures ∙ not-true _ c.if2.true))
+    let listed = sym c.lists_fit.ensures ∙ c.if-not-lists_fit.false in
+    says-pairs _ _ _ _ listed (ap not (sym c.pairs_fit.ensures ∙ c.if-not-pairs_fit.true))
 
-cast-if3 : tie.Need-overflow-cast-if3
+cast-if3 : tie.Need-overflow_cast-folder
 cast-if3 c = search rules
 
-returns-3 : tie.Need-returns-3
+returns-3 : tie.Need-returns-then-folders-folder
 returns-3 c =
-    let listed = sym c.before.before.before.before.before.lists-fit.ensures ∙ not-false _ c.before.before.before.before.if1.false in
-    says-unknown _ _ _ _ listed (ap not (sym c.before.before.before.pairs-fit.ensures ∙ not-false _ c.before.before.if2.false)) c.if3.true
+    let listed = sym c.lists_fit.ensures ∙ c.if-not-lists_fit.false in
+    says-unknown _ _ _ _ listed (ap not (sym c.pairs_fit.ensures ∙ c.if-not-pairs_fit.false)) c.if-folders-folder.true
 
-label-of-requires : tie.Need-label-of-requires
+label-of-requires : tie.Need-label_of-o-requires
 label-of-requires c κs = search rules
 
 writes-requires : tie.Need-writes-requires
 writes-requires c κs = search rules
 
-write-by-pairs-requires : tie.Need-write-by-pairs-requires
+write-by-pairs-requires : tie.Need-write_by_pairs-requires
 write-by-pairs-requires c κs =
-    walked _ _ (sym c.before.before.before.before.before.before.before.before.lists-fit.ensures ∙ not-false _ c.before.before.before.before.before.before.before.if1.false)
+    walked _ _ (sym c.lists_fit.ensures ∙ c.if-not-lists_fit.false)
 
-returns-4 : tie.Need-returns-4
+returns-4 : tie.Need-returns-then-writes
 returns-4 c =
-    let listed = sym c.before.before.before.before.before.before.before.before.before.lists-fit.ensures ∙ not-false _ c.before.before.before.before.before.before.before.before.if1.false in
-    let fit = ap not (sym c.before.before.before.before.before.before.before.pairs-fit.ensures ∙ not-false _ c.before.before.before.before.before.before.if2.false) in
-    says-wall _ _ _ _ listed fit c.before.before.before.before.if3.false _ c.before.before.before.label_of.ensures refl (c.write-by-pairs.ensures _ (sym c.before.before.writes.ensures ∙ c.before.if4.true))
+    let listed = sym c.lists_fit.ensures ∙ c.if-not-lists_fit.false in
+    let fit = ap not (sym c.pairs_fit.ensures ∙ c.if-not-pairs_fit.false) in
+    says-wall _ _ _ _ listed fit c.if-folders-folder.false _ c.label_of-o.ensures refl (c.write_by_pairs.ensures _ (sym c.writes.ensures ∙ c.if-writes.true))
 
-read-by-pairs-requires : tie.Need-read-by-pairs-requires
+read-by-pairs-requires : tie.Need-read_by_pairs-requires
 read-by-pairs-requires c κs =
-    let l = walked _ _ (sym c.before.before.before.before.before.before.before.before.lists-fit.ensures ∙ not-false _ c.before.before.before.before.before.before.before.if1.false) in
-    (l.0, l.1, sym c.before.writes.ensures ∙ c.if4.false)
+    let l = walked _ _ (sym c.lists_fit.ensures ∙ c.if-not-lists_fit.false) in
+    (l.0, l.1, sym c.writes.ensures ∙ c.if-writes.false)
 
-returns-5 : tie.Need-returns-5
+returns-5 : tie.Need-returns
 returns-5 c =
-    let listed = sym c.before.before.before.before.before.before.before.before.before.lists-fit.ensures ∙ not-false _ c.before.before.before.before.before.before.before.before.if1.false in
-    let fit = ap not (sym c.before.before.before.before.before.before.before.pairs-fit.ensures ∙ not-false _ c.before.before.before.before.before.before.if2.false) in
-    says-wall _ _ _ _ listed fit c.before.before.before.before.if3.false _ c.before.before.before.label_of.ensures refl c.read-by-pairs.ensures
+    let listed = sym c.lists_fit.ensures ∙ c.if-not-lists_fit.false in
+    let fit = ap not (sym c.pairs_fit.ensures ∙ c.if-not-pairs_fit.false) in
+    says-wall _ _ _ _ listed fit c.if-folders-folder.false _ c.label_of-o.ensures refl c.read_by_pairs.ensures
 
 pub decide_by_pairs_spec : {M : Type 1} → statement M
 decide_by_pairs_spec =

@@ -5,28 +5,26 @@ use borrow.Author.Rules.{rules}
 use Rattle.row.proofs.read_by_pairs.Statement.{statement}
 use Rattle.row.proofs.read_by_pairs.Tie as tie
 
-first-opposer-requires : tie.Need-first-opposer-requires
+first-opposer-requires : tie.Need-first_opposer-opposer-requires
 first-opposer-requires c κs = search rules
 
-folder-no-requires : tie.Need-folder-no-requires
+folder-no-requires : tie.Need-folder_no-requires
 folder-no-requires c κs = search rules
 
-returns : tie.Need-returns
+returns : tie.Need-returns-then-opposer-classes
 returns c =
-    let s = c.before.before.before.before.before.before.before.before.before in
-    let b = s.requires.0 in
-    let is = c.before.before.first-opposer.ensures ∙ opposer-beside _ s.args.matrix.now s.args.start _ (b.1 ∙ sym b.0) in
-    rw (c.folder-no.ensures, ← is) (ruled_past-rival _ _ _ b.0 _ _ c.before.if1.true)
+    let b = c.requires.0 in
+    let is = c.first_opposer-opposer.ensures ∙ opposer-beside _ c.args.matrix.now c.args.start _ (b.1 ∙ sym b.0) in
+    rw (c.folder_no.ensures, ← is) (ruled_past-rival _ _ _ b.0 _ _ c.if-opposer-classes.true)
 
-rule-read-requires : tie.Need-rule-read-requires
+rule-read-requires : tie.Need-rule_read-requires
 rule-read-requires c κs = search rules
 
-returns-2 : tie.Need-returns-2
+returns-2 : tie.Need-returns
 returns-2 c =
-    let s = c.before.before.before.before.before.before.before.before.before in
-    let b = s.requires.0 in
-    let is = c.before.before.first-opposer.ensures ∙ opposer-beside _ s.args.matrix.now s.args.start _ (b.1 ∙ sym b.0) in
-    rw (← is) (c.rule-read.ensures ∙ ruled_past-none _ _ _ b.0 _ _ c.before.if1.false)
+    let b = c.requires.0 in
+    let is = c.first_opposer-opposer.ensures ∙ opposer-beside _ c.args.matrix.now c.args.start _ (b.1 ∙ sym b.0) in
+    rw (← is) (c.rule_read.ensures ∙ ruled_past-none _ _ _ b.0 _ _ c.if-opposer-classes.false)
 
 pub read_by_pairs_spec : {M : Type 1} → statement M
 read_by_pairs_spec =

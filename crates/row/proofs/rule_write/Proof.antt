@@ -7,23 +7,23 @@ use borrow.Author.Rules.{rules}
 use Rattle.row.proofs.rule_write.Statement.{statement}
 use Rattle.row.proofs.rule_write.Tie as tie
 
-find-requires : tie.Need-find-requires
+find-requires : tie.Need-find-foreign-requires
 find-requires c κs = search rules
 
-folder-no-requires : tie.Need-folder-no-requires
+folder-no-requires : tie.Need-folder_no-requires
 folder-no-requires c κs = search rules
 
-returns : tie.Need-returns
+returns : tie.Need-returns-then-foreign-classes
 unfolding ruled_past judge
 returns c =
-    let e = c.before.before.before.before.before.before.requires.0.0 in
-    λ kind w. rw (c.folder-no.ensures, ← c.before.before.find.ensures, same-leb _ _ e, w, lt-leb _ _ (rw e at c.before.if1.true))
+    let e = c.requires.0.0 in
+    λ kind w. rw (c.folder_no.ensures, ← c.find-foreign.ensures, same-leb _ _ e, w, lt-leb _ _ (rw e at c.if-foreign-classes.true))
 
-returns-2 : tie.Need-returns-2
+returns-2 : tie.Need-returns
 unfolding ruled_past judge
 returns-2 c =
-    let e = c.before.before.before.before.before.requires.0.0 in
-    λ kind w. rw (← c.before.find.ensures, same-leb _ _ e, w, le-leb _ _ (rw e at c.if1.false), writes-other kind w)
+    let e = c.requires.0.0 in
+    λ kind w. rw (← c.find-foreign.ensures, same-leb _ _ e, w, le-leb _ _ (rw e at c.if-foreign-classes.false), writes-other kind w)
 
 pub rule_write_spec : {M : Type 1} → statement M
 rule_write_spec = tie.close (tie.spec find-requires folder-no-requires returns returns-2)

@@ -9,14 +9,14 @@ use Rattle.row.proofs.walks.exists.Tie as tie
 first-requires : tie.Need-first-requires
 first-requires c κs = search rules
 
-returns : tie.Need-returns
+returns : tie.Need-returns-then-classes-lt16
 returns c =
-    rw c.first.ensures (ap (ltb _) c.before.before.before.before.before.requires.0 ∙ below-some _ _)
+    rw c.first.ensures (ap (ltb _) c.requires.0 ∙ below-some _ _)
 
 any-requires : tie.Need-any-requires
 any-requires c κs = search rules
 
-returns-2 : tie.Need-returns-2
+returns-2 : tie.Need-returns
 returns-2 c = search rules
 
 pub exists_spec : {M : Type 1} → statement M

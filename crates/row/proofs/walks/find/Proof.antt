@@ -9,20 +9,20 @@ use Rattle.row.proofs.walks.find.Tie as tie
 any-requires : tie.Need-any-requires
 any-requires c κs = search rules
 
-returns : tie.Need-returns
+returns : tie.Need-returns-then-not-any
 returns c =
-    c.before.before.before.before.before.before.before.requires.0.0 ∙ first_absent _ _ _ (sym c.before.any.ensures ∙ not-true _ c.if3.true)
+    c.requires.0.0 ∙ first_absent _ _ _ (sym c.any.ensures ∙ c.if-not-any.true)
 
 least-requires : tie.Need-least-requires
 least-requires c κs = search rules
 
-returns-2 : tie.Need-returns-2
+returns-2 : tie.Need-returns-then-classes-ge16
 returns-2 c = search rules
 
 first-requires : tie.Need-first-requires
 first-requires c κs = search rules
 
-returns-3 : tie.Need-returns-3
+returns-3 : tie.Need-returns
 returns-3 c = search rules
 
 pub find_spec : {M : Type 1} → statement M

@@ -13,68 +13,68 @@ use borrow.Author.Rules.{rules}
 use Rattle.row.proofs.walks.first.Statement.{statement}
 use Rattle.row.proofs.walks.first.Tie as tie
 
-abbrev invariant-loop : tie.invariant-loop
+abbrev invariant-loop : tie.invariant-loop-f
 invariant-loop sort matrix start classes clients o place₀ f₀ place f =
     (f ≤ length classes) × (Placed (length classes) start f place × (those (of_sort_at sort (row_at matrix start (length classes)) classes clients o) f ≡ []))
 
-abbrev decreases-loop : tie.decreases-loop
+abbrev decreases-loop : tie.decreases-loop-f
 decreases-loop sort matrix start classes clients o place₀ f₀ place f =
     length classes - f
 
-loop-holds : tie.Need-loop-init invariant-loop decreases-loop
+loop-holds : tie.Need-loop-f-init invariant-loop decreases-loop
 unfolding those
 loop-holds c =
     (omega arith, (placed-start _ _, refl))
 
-shared-slice-read-cell : tie.Need-shared-slice-read-cell invariant-loop decreases-loop
+shared-slice-read-cell : tie.Need-bounds-matrix-place invariant-loop decreases-loop
 shared-slice-read-cell c =
-    let w = placed-within _ _ _ _ _ _ (sym c.before.before.before.before.before.before.requires.0) c.before.before.loop.invariant.1.0 c.before.loop-test.true in
+    let w = placed-within _ _ _ _ _ _ (sym c.requires.0) c.loop-f.invariant.1.0 c.loop-f-test.true in
     search rules
 
-mul-class : tie.Need-overflow-mul-class invariant-loop decreases-loop
+mul-class : tie.Need-offset_bounds-classes-f invariant-loop decreases-loop
 mul-class c = search rules
 
-shared-slice-read-class : tie.Need-shared-slice-read-class invariant-loop decreases-loop
+shared-slice-read-class : tie.Need-bounds-classes-f invariant-loop decreases-loop
 shared-slice-read-class c = search rules
 
-mul-client : tie.Need-overflow-mul-client invariant-loop decreases-loop
+mul-client : tie.Need-offset_bounds-clients-f invariant-loop decreases-loop
 mul-client c = search rules
 
-shared-slice-read-client : tie.Need-shared-slice-read-client invariant-loop decreases-loop
+shared-slice-read-client : tie.Need-bounds-clients-f invariant-loop decreases-loop
 shared-slice-read-client c = search rules
 
-labelled-requires : tie.Need-labelled-requires invariant-loop decreases-loop
+labelled-requires : tie.Need-labelled-label-requires invariant-loop decreases-loop
 labelled-requires c κs = search rules
 
-of-sort-requires : tie.Need-of-sort-requires invariant-loop decreases-loop
+of-sort-requires : tie.Need-of_sort-requires invariant-loop decreases-loop
 of-sort-requires c κs = search rules
 
-returns : tie.Need-returns invariant-loop decreases-loop
+returns : tie.Need-returns-then-of_sort invariant-loop decreases-loop
 returns c =
-    let i = c.before.before.before.before.before.before.before.loop.invariant in
-    let t = c.before.before.before.before.before.before.loop-test.true in
-    sym (first_found _ _ _ _ i.1.1 (rw (c.before.before.labelled.ensures, cell-placed _ _ _ _ _ i.1.0 t) at (sym c.before.of-sort.ensures ∙ c.if1.true)) (rw (← c.before.before.before.before.before.before.before.before.before.before.before.requires.0) t))
+    let i = c.loop-f.invariant in
+    let t = c.loop-f-test.true in
+    sym (first_found _ _ _ _ i.1.1 (rw (c.labelled-label.ensures, cell-placed _ _ _ _ _ i.1.0 t) at (sym c.of_sort.ensures ∙ c.if-of_sort.true)) (rw (← c.requires.0) t))
 
-add-place : tie.Need-overflow-add-place invariant-loop decreases-loop
+add-place : tie.Need-overflow_add-place invariant-loop decreases-loop
 add-place c =
-    let w = placed-within _ _ _ _ _ _ (sym c.before.before.before.before.before.before.before.before.before.before.before.requires.0) c.before.before.before.before.before.before.before.loop.invariant.1.0 c.before.before.before.before.before.before.loop-test.true in
+    let w = placed-within _ _ _ _ _ _ (sym c.requires.0) c.loop-f.invariant.1.0 c.loop-f-test.true in
     search rules
 
-add-f : tie.Need-overflow-add-f invariant-loop decreases-loop
+add-f : tie.Need-overflow_add-f invariant-loop decreases-loop
 add-f c = search rules
 
-loop-less : tie.Need-loop-smaller invariant-loop decreases-loop
+loop-less : tie.Need-loop-f-smaller invariant-loop decreases-loop
 loop-less c = search rules
 
-loop-again : tie.Need-loop-preserved invariant-loop decreases-loop
+loop-again : tie.Need-loop-f-preserved invariant-loop decreases-loop
 loop-again c =
-    let i = c.before.before.before.before.before.before.before.loop.invariant in
-    (omega arith, (placed-next _ _ _ _ i.1.0, those-none _ _ i.1.1 (rw (c.before.before.labelled.ensures, cell-placed _ _ _ _ _ i.1.0 c.before.before.before.before.before.before.loop-test.true) at (sym c.before.of-sort.ensures ∙ c.if1.false))))
+    let i = c.loop-f.invariant in
+    (omega arith, (placed-next _ _ _ _ i.1.0, those-none _ _ i.1.1 (rw (c.labelled-label.ensures, cell-placed _ _ _ _ _ i.1.0 c.loop-f-test.true) at (sym c.of_sort.ensures ∙ c.if-of_sort.false))))
 
-returns-2 : tie.Need-returns-2 invariant-loop decreases-loop
+returns-2 : tie.Need-returns invariant-loop decreases-loop
 returns-2 c =
-    let e = c.before.before.before.before.before.requires.0 in
-    sym (first-end _ _ _ c.before.loop.invariant.1.1 (rw (← e) c.before.loop.invariant.0) (rw (← e) c.loop-test.false))
+    let e = c.requires.0 in
+    sym (first-end _ _ _ c.loop-f.invariant.1.1 (rw (← e) c.loop-f.invariant.0) (rw (← e) c.loop-f-test.false))
 
 pub first_spec : {M : Type 1} → statement M
 first_spec =
