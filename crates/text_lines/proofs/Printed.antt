@@ -1,12 +1,14 @@
 -- Laws of a printed line: a word, a number, and then the numbers after it and the line's end.
-use Prim.Native.Nat.{ℕ, ◌+◌, ◌-◌, ◌^◌, ◌≤◌}
+use Prim.Native.Nat.{ℕ, ◌+◌, ◌-◌, ◌*◌, ◌^◌, ◌≤◌}
 use native.Mathlib.Nat.{zero-add, sub-zero}
 use native.Mathlib.Omega.{arith}
-use mathlib.Core.Path.{◌≡◌}
+use mathlib.Core.Path.{◌≡◌, ◌∙◌}
 use mathlib.Core.List.{List, [], ◌∷◌, ◌++◌, append_assoc}
-use lib.ListN.{length, take, drop, replicate, length-append, length-replicate}
+use lib.ListN.{length, take, replicate, length-append, length-replicate}
 use lib.Seq.{sets, sets-eq, length-sets, take-length, take-append_seam}
 use borrow.Author.Tests.{le-ltb}
+use borrow.Rule.Slice.PartMut.{put_mid}
+use Rattle.std.proofs.lemmas.Slice.{put_mid-paste}
 use Rattle.vocabulary.proofs.Sets.{sets-append}
 use Rattle.text_lines.specs.declared.Text.{Text}
 use Rattle.text_lines.specs.Text.{decimal, spaced, printed, bounded, text_of, shown}
@@ -16,8 +18,9 @@ use Rattle.text_lines.proofs.Spaced.{Small, length-spaced}
 -- ---- a text at the start of a buffer
 
 -- A text copied there.
-pub sets-copy : (buffer text : List ℕ) → length text ≤ length buffer → take (length text) text ++ drop (length text) buffer ≡ sets buffer 0 text
-sets-copy buffer text h = rw (sets-eq text buffer 0 (omega arith), take-length, zero-add)
+pub sets-copy : (buffer text copied : List ℕ) → copied ≡ text → length text ≤ length buffer → put_mid 0 (length text - 0) buffer copied ≡ sets buffer 0 text
+sets-copy buffer text copied e h =
+    put_mid-paste 0 (length text - 0) buffer copied text (length text) e (omega arith) (omega arith) ∙ rw (sets-eq text buffer 0 (omega arith), take-length)
 
 -- A text that fits its buffer is found there again.
 pub taken : (buffer text : List ℕ) → length text ≤ length buffer → take (length text) (sets buffer 0 text) ≡ text
@@ -30,6 +33,15 @@ module _ (buffer text out : List ℕ) (end : ℕ) (room : length text ≤ length
 
   pub part-text : take (end - 0) out ≡ text
   part-text = rw (sub-zero, after, stored) (taken buffer text room)
+
+-- A short word copied to the start of a text leaves room for a number, and both leave room for the numbers of a line.
+module _ (word digits one : List ℕ) (short : length word ≤ 64) (few : length digits ≤ 20) (stored : one ≡ sets (replicate 4096 0) 0 word) where
+  pub room-number : length word + length digits ≤ length one
+  room-number = rw (stored, length-sets) (omega (arith, length-replicate {A = ℕ} 4096 0))
+
+  pub room-rest : (rest two : List ℕ) (end : ℕ) → length rest ≤ 512 → (two ≡ sets one (length word) digits) × (end ≡ length word + length digits)
+      → end + 6 * length rest + 1 ≤ length two
+  room-rest rest two end h e = rw (e.0, e.1, length-sets, stored, length-sets) (omega (arith, length-replicate {A = ℕ} 4096 0))
 
 -- ---- a line
 

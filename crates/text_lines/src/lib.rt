@@ -33,7 +33,8 @@ pub fn line(word: &[u8], number: usize, rest: &[u16]) -> Text
         return nothing();
     }
     let mut bytes = [0u8; 4096];
-    let at = bytes::copy(word, &mut bytes);
+    let at = word.len();
+    bytes[0..at].copy_from_slice(word);
     let end = put_number(&mut bytes, at, number);
     let len = put_rest(&mut bytes, end, rest);
     Text {
