@@ -4,35 +4,36 @@
 ghost use Rattle.std.specs.Prelude.{◌≡◌, length};
 
 use desk_opening::Opening;
-use libc::{STDIN_FILENO, STDOUT_FILENO};
 use log_writer::Tail;
+use std::io;
+use std::io::{ErrorKind, Read};
 use text_lines::Text;
 
-fn main() {
+fn main(rt: HostRuntime) -> io::Result<()> {
     // one byte more than the desk takes, so that a longer input is seen to be one
-    let mut input = [0u8; 65537];
-    let n = io::read_full(STDIN_FILENO, &mut input);
-    let opening = desk_opening::open(&input[0..n]);
-    let text = opening.text;
-    if show(text) & opening.onward {
-        serve(&input[0..n], opening);
+    let mut input = Vec::new(rt.alloc());
+    rt.stdin().take(65537).read_to_end(&mut input)?;
+    let opening = desk_opening::open(&input);
+    show(&rt, &opening.text)?;
+    if opening.onward {
+        serve(&rt, &input, opening)?;
     }
+    Ok(())
 }
 
-// Writes a printed text, which is never longer than its buffer; false if it could not be written.
-fn show(text: Text) -> bool
-    requires { length text.bytes ≡ 4096 }
+// Writes a printed text, which is never longer than its buffer.
+fn show(rt: &impl Print, text: &Text) -> io::Result<()>
+    requires { length text.now.bytes ≡ 4096 }
 {
-    let bytes = text.bytes;
     let n = text.len;
     if 4096 < n {
-        return false;
+        return Err(ErrorKind::InvalidData.into());
     }
-    io::write_all(STDOUT_FILENO, &bytes[0..n])
+    rt.write_all(&text.bytes[0..n])
 }
 
 // The requests, with each login its own person, a blank matrix of P times F cells and an empty log.
-fn serve(input: &[u8], opening: Opening)
+fn serve(rt: &impl Print, input: &[u8], opening: Opening) -> io::Result<()>
     requires { (length opening.classes ≡ 512) × (length opening.clients ≡ 512) }
 {
     let folders = opening.folders;
@@ -44,13 +45,14 @@ fn serve(input: &[u8], opening: Opening)
     let mut log = [0u8; 65536];
     // an accepted register has no more
     if 512 < folders {
-        return;
+        return Ok(());
     }
     if 128 < logins {
-        return;
+        return Ok(());
     }
     let cells = logins * folders;
     run(
+        rt,
         input,
         opening.place,
         logins,
@@ -59,12 +61,13 @@ fn serve(input: &[u8], opening: Opening)
         &persons[0..logins],
         &mut matrix[0..cells],
         &mut log,
-    );
+    )
 }
 
 // Step after step, until the run is over or the output takes no more. One step more than the input has bytes is enough: every line has
 // bytes, and one step finds the end.
 fn run(
+    rt: &impl Print,
     input: &[u8],
     place: usize,
     logins: usize,
@@ -73,18 +76,19 @@ fn run(
     persons: &[u16],
     matrix: &mut [u8],
     log: &mut [u8],
-) {
+) -> io::Result<()> {
     let mut at = place;
     let mut tail = Tail { end: 0, serial: 0 };
     for _ in 0..=input.len() {
         let progress = desk_core::step(
             input, at, logins, classes, clients, persons, matrix, log, tail,
         );
-        let text = progress.text;
-        if !(show(text) & progress.onward) {
-            return;
+        show(rt, &progress.text)?;
+        if !progress.onward {
+            return Ok(());
         }
         at = progress.place;
         tail = progress.tail;
     }
+    Ok(())
 }
