@@ -14,14 +14,17 @@ FOLDERS = $(PREFIX) $(INCLUDEDIR) $(LIBDIR) $(PKGCONFIGDIR)
 
 HEADER := include/housechervil.h
 LIBRARY := target/staticlib/libhousechervil.a
-SOURCES := crates.txt $(shell find crates -name must-fail -prune -o -type f -print)
+# rt builds in the out/ of each crate, which it also sets aside; the archive is copied to where all that links it looks
+BUILT := crates/housechervil/out/libhousechervil.a
+SOURCES := crates.txt $(shell find crates \( -name must-fail -o -name out \) -prune -o -type f -print)
 # the one place where the version stands
 VERSION := $(shell sed -n 's/^\#define HC_VERSION "\([^"]*\)".*/\1/p' $(HEADER))
 
 all: $(LIBRARY)
 
 $(LIBRARY): $(SOURCES)
-	rt staticlib housechervil
+	cd crates/housechervil && rt lib
+	install -D -m 644 $(BUILT) $@
 
 check:
 	.ci/run
@@ -50,7 +53,7 @@ uninstall:
 	rm -f '$(DESTDIR)$(INCLUDEDIR)/housechervil.h' '$(DESTDIR)$(LIBDIR)/libhousechervil.a' '$(DESTDIR)$(PKGCONFIGDIR)/housechervil.pc'
 
 clean:
-	rm -rf target bindings/rust/target
+	rm -rf target bindings/rust/target crates/*/out
 
 help:
 	@echo 'make             proves and builds the static library, $(LIBRARY)'

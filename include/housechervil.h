@@ -1,8 +1,7 @@
 /*
- * Housechervil: the access monitor of a reading room. This is the C face of the static library `housechervil`
- * (`rt staticlib housechervil` writes target/staticlib/libhousechervil.a). Every function behind it is proved to answer, and to
- * leave in every buffer lent, exactly what the rules say, on every input; they stand in the repository's docs/RULES.md. No call
- * leans on an earlier check.
+ * Housechervil: the access monitor of a reading room. This is the C face of the static library `housechervil` (`make` writes
+ * target/staticlib/libhousechervil.a). Every function behind it is proved to answer, and to leave in every buffer lent, exactly what
+ * the rules say, on every input; they stand in the repository's docs/RULES.md. No call leans on an earlier check.
  *
  * Library and header are for x86-64 Linux. The header is C11 and C++17, and was tried with gcc and g++ 12.2 and with clang and
  * clang++ 14.0.

@@ -1,6 +1,6 @@
 //! Finds `libhousechervil.a` and links it.
 //!
-//! The library is looked for where `rt staticlib housechervil` puts it, `target/staticlib` at the repository's root, or in the
+//! The library is looked for where `make` puts it, `target/staticlib` at the repository's root, or in the
 //! directory that the environment variable `HOUSECHERVIL_LIB_DIR` names by an absolute path.
 
 use std::env;
@@ -64,7 +64,7 @@ pub fn present(library: &Path) -> Result<(), String> {
         return Ok(());
     }
     Err(format!(
-        "{} is missing.\nRun `rt staticlib housechervil` at the repository's root, or name the directory that holds \
+        "{} is missing.\nRun `make` at the repository's root, or name the directory that holds \
          libhousechervil.a in {VARIABLE}, by an absolute path.",
         library.display()
     ))

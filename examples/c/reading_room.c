@@ -2,7 +2,7 @@
  * A small reading room: it prints the board, files a register, asks for folders, prints each answer in words and then the log. At the
  * end stand two more rooms: one whose conflicts are by pair, and one where a person has two logins.
  *
- *     rt staticlib housechervil
+ *     make
  *     make -C examples/c check
  *
  * `check` runs it on examples/house.names, the house's names of its folders, and examples/client.names, those that Aster Bank has for

@@ -44,9 +44,9 @@
 //!
 //! # Building
 //!
-//! The build script looks for `libhousechervil.a` in `target/staticlib` at the repository's root, where
-//! `rt staticlib housechervil` puts it, or in the directory that the environment variable `HOUSECHERVIL_LIB_DIR` names, by an
-//! absolute path. The library is for x86-64 Linux. The crate has no dependencies and asks for Rust 1.63 or later.
+//! The build script looks for `libhousechervil.a` in `target/staticlib` at the repository's root, where `make` puts it, or in the
+//! directory that the environment variable `HOUSECHERVIL_LIB_DIR` names, by an absolute path. The library is for x86-64 Linux. The
+//! crate has no dependencies and asks for Rust 1.63 or later.
 //!
 //! # What there is
 //!
@@ -102,7 +102,7 @@
 //! - **Stack.** The library needs less than 11 KiB of it.
 //! - **Threads.** All types are plain data and borrows, so `Send` and `Sync` are the compiler's own conclusions.
 //!
-//! What this rests on: that the library linked in is the one that `rt staticlib housechervil` makes.
+//! What this rests on: that the library linked in is the one that the repository's `make` builds.
 //!
 //! # Panics
 //!

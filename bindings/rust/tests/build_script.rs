@@ -55,7 +55,7 @@ fn a_missing_library_is_named() {
     assert_eq!(present(Path::new(concat!(env!("CARGO_MANIFEST_DIR"), "/build.rs"))), Ok(()));
     let message = present(Path::new("/no/such/place/libhousechervil.a")).unwrap_err();
     assert!(message.starts_with("/no/such/place/libhousechervil.a is missing."), "{message}");
-    assert!(message.contains("rt staticlib housechervil") && message.contains("HOUSECHERVIL_LIB_DIR"), "{message}");
+    assert!(message.contains("Run `make` at ") && message.contains("HOUSECHERVIL_LIB_DIR"), "{message}");
 }
 
 // ---------------------------------------------------------------- the whole script, in a process of its own

@@ -1,5 +1,5 @@
 //! The desk program against a second reading of document 01, 'The desk program': chosen edges, and random and damaged inputs. The program is
-//! `target/bin/desk` of the repository, which `rt check desk` builds, or the one that `HOUSECHERVIL_DESK` names.
+//! `crates/desk/out/desk` of the repository, which `./desk` builds, or the one that `HOUSECHERVIL_DESK` names.
 
 mod reference;
 mod support;
@@ -16,14 +16,14 @@ use support::Random;
 fn program() -> PathBuf {
     match std::env::var_os("HOUSECHERVIL_DESK") {
         Some(named) => PathBuf::from(named),
-        None => PathBuf::from(concat!(env!("CARGO_MANIFEST_DIR"), "/../../target/bin/desk")),
+        None => PathBuf::from(concat!(env!("CARGO_MANIFEST_DIR"), "/../../crates/desk/out/desk")),
     }
 }
 
 /// What the program writes for an input. It reads no more than it takes, so a longer input may find the pipe closed.
 fn run(input: &[u8]) -> Vec<u8> {
     let program = program();
-    assert!(program.is_file(), "{} is missing: run `rt check desk` at the repository's root", program.display());
+    assert!(program.is_file(), "{} is missing: run `./desk` with an input at the repository's root", program.display());
     let mut child = Command::new(program).stdin(Stdio::piped()).stdout(Stdio::piped()).spawn().unwrap();
     let mut pipe = child.stdin.take().unwrap();
     let bytes = input.to_vec();
