@@ -13,33 +13,33 @@ fits-requires c κs = search rules
 revokes-requires : tie.Need-revokes-requires
 revokes-requires c κs = search rules
 
-label-of-requires : tie.Need-label-of-requires
+label-of-requires : tie.Need-label_of-o-requires
 label-of-requires c κs = search rules
 
-list-stakes-requires : tie.Need-list-stakes-requires
+list-stakes-requires : tie.Need-list_stakes-count-requires
 list-stakes-requires c κs =
-    let p = fits-are _ _ _ (fits-first _ _ _ c.before.before.before.revokes.result c.before.before.before.before.fits2.ensures c.before.before.if1.true) in
+    let p = fits-are _ _ _ (fits-first _ _ _ c.revokes.result c.fits.ensures c.if-fits-revokes.true) in
     (p.0, omega arith, omega arith)
 
-clear-at-requires : tie.Need-clear-at-requires
+clear-at-requires : tie.Need-clear_at-requires
 clear-at-requires c κs = search rules
 
-same_length : tie.Need-same-length
+same_length : tie.Need-shape_of-list-then-fits-revokes
 same_length c = search rules
 
-returns : tie.Need-returns
+returns : tie.Need-returns-then-fits-revokes
 returns c =
-    listed-cleared c.before.before.before.before.before.before.list-stakes.ensures c.before.before.clear_at.ensures (lost-stakes _ _ _ _ c.before.before.before.before.before.before.before.before.before.before.before.fits2.ensures c.before.before.before.before.before.before.before.before.before.before.revokes.ensures c.before.before.before.before.before.before.before.before.before.if1.true _ c.before.before.before.before.before.before.before.before.label_of.ensures)
+    listed-cleared c.list_stakes-count.ensures c.clear_at.ensures (lost-stakes _ _ _ _ c.fits.ensures c.revokes.ensures c.if-fits-revokes.true _ c.label_of-o.ensures)
 
-clear-at-requires-2 : tie.Need-clear-at-requires-2
+clear-at-requires-2 : tie.Need-clear_at-requires-2
 clear-at-requires-2 c κs = search rules
 
-same-length-2 : tie.Need-same-length-2
+same-length-2 : tie.Need-shape_of-list
 same-length-2 c = search rules
 
-returns-2 : tie.Need-returns-2
+returns-2 : tie.Need-returns
 returns-2 c =
-    listed-cleared (stored-none _) c.before.before.clear-at2.ensures (lost-none _ _ _ _ c.before.before.before.before.before.before.fits2.ensures c.before.before.before.before.before.revokes.ensures c.before.before.before.before.if1.false)
+    listed-cleared (stored-none _) c.clear_at-2.ensures (lost-none _ _ _ _ c.fits.ensures c.revokes.ensures c.if-fits-revokes.false)
 
 pub list_fitting_spec : {M : Type 1} → statement M
 list_fitting_spec =

@@ -7,32 +7,32 @@ use borrow.Author.Rules.{rules}
 use Rattle.row_lost.proofs.list_lost.Statement.{statement}
 use Rattle.row_lost.proofs.list_lost.Tie as tie
 
-row-length-requires : tie.Need-row-length-requires
+row-length-requires : tie.Need-row_length-requires
 row-length-requires c κs = search rules
 
-clear-at-requires : tie.Need-clear-at-requires
+clear-at-requires : tie.Need-clear_at-requires
 clear-at-requires c κs = search rules
 
-same_length : tie.Need-same-length
+same_length : tie.Need-shape_of-list-then-list-row_length
 same_length c = search rules
 
-returns : tie.Need-returns
+returns : tie.Need-returns-then-list-row_length
 unfolding lost_listed
 returns c =
-    let few = rw c.before.before.before.before.before.row-length.ensures at c.before.before.before.before.if1.true in
-    rw (lt-leb _ _ few) (listed-cleared (stored-none c.before.before.before.before.before.before.before.before.before.before.args.list.now) c.before.before.clear_at.ensures refl)
+    let few = rw c.row_length.ensures at c.if-list-row_length.true in
+    rw (lt-leb _ _ few) (listed-cleared (stored-none c.args.list.now) c.clear_at.ensures refl)
 
-list-fitting-requires : tie.Need-list-fitting-requires
+list-fitting-requires : tie.Need-list_fitting-requires
 list-fitting-requires c κs = search rules
 
-same-length-2 : tie.Need-same-length-2
+same-length-2 : tie.Need-shape_of-list
 same-length-2 c = search rules
 
-returns-2 : tie.Need-returns-2
+returns-2 : tie.Need-returns
 unfolding lost_listed
 returns-2 c =
-    let enough = rw c.before.before.before.before.before.row-length.ensures at c.before.before.before.before.if1.false in
-    rw (le-leb _ _ enough) c.before.before.list-fitting.ensures
+    let enough = rw c.row_length.ensures at c.if-list-row_length.false in
+    rw (le-leb _ _ enough) c.list_fitting.ensures
 
 pub list_lost_spec : {M : Type 1} → statement M
 list_lost_spec =
