@@ -1,18 +1,15 @@
--- What is known of a response that the code's `match` leaves to `_` after a grant, by its variant's place among all.
+-- What is known of a response that the code's `match` leaves to `_` after a grant.
 use mathlib.Core.Path.{◌≡◌, refl}
 use mathlib.Core.Bool.{false}
-use mathlib.Core.List.{[], ◌∷◌}
+use Prim.Native.Nat.{ℕ}
 use lib.Dec.{eqb}
-use denote.Enum.Declared.{tag_of}
-use types.Run.{OneOf, miss}
 use Rattle.response.specs.Response.{response_answer}
-use Rattle.response.specs.contracts.Response.{the_type}
 use Rattle.response.specs.declared.Response.{Response}
 use Rattle.response.specs.declared.Response.TheVariants.{Granted, OutOfRange, LoneZero, TwoClasses, MatrixLength, UnknownLogin, UnknownFolder, UnknownKind, BadCell, BadEnd, BadPersons, BadPairs, Rival, Foreign, AtStake, NoRoom}
 
 -- All but a grant.
-pub not-granted : (a : Response) → OneOf (1 ∷ 2 ∷ 3 ∷ 4 ∷ 5 ∷ 6 ∷ 7 ∷ 8 ∷ 9 ∷ 10 ∷ 11 ∷ 12 ∷ 13 ∷ 14 ∷ 15 ∷ []) (tag_of the_type a) → eqb (response_answer a).number 0 ≡ false
-not-granted (Granted n) k = absurd (miss (1 ∷ 2 ∷ 3 ∷ 4 ∷ 5 ∷ 6 ∷ 7 ∷ 8 ∷ 9 ∷ 10 ∷ 11 ∷ 12 ∷ 13 ∷ 14 ∷ 15 ∷ []) 0 tt k)
+pub not-granted : (a : Response) → ((n : ℕ) → a ≡ Granted n → ⊥) → eqb (response_answer a).number 0 ≡ false
+not-granted (Granted n) k = absurd (k n refl)
 not-granted OutOfRange k = refl
 not-granted (LoneZero f) k = refl
 not-granted (TwoClasses f g) k = refl

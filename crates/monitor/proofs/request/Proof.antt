@@ -9,39 +9,39 @@ use borrow.Author.Rules.{rules}
 use Rattle.monitor.proofs.request.Statement.{statement}
 use Rattle.monitor.proofs.request.Tie as tie
 
-judge-front-requires : tie.Need-judge-front-requires
+judge-front-requires : tie.Need-judge_front-first-requires
 judge-front-requires c κs = search rules
 
-enum_told : tie.Need-enum-told
+enum_told : tie.Need-enum_told-1
 enum_told c = search rules
 
-person-of-requires : tie.Need-person-of-requires
+person-of-requires : tie.Need-person_of-person-requires
 person-of-requires c κs = search rules
 
-row-start-requires : tie.Need-row-start-requires
+row-start-requires : tie.Need-row_start-requires
 row-start-requires c κs =
-    let w = row_within (opened _ _ c.before.before.before.before.before.before.before.before.before.before.before.before.args.matrix.now _ _ (rw c.before.before.enum_told.given.1 at c.before.before.before.before.judge-front.ensures)) in
-    rw c.before.person-of.ensures (omega (arith, w.0, w.1))
+    let w = row_within (opened _ _ c.args.matrix.now _ _ (rw c.in-Granted.is at c.judge_front-first.ensures)) in
+    rw c.person_of-person.ensures (omega (arith, w.0, w.1))
 
 serve-requires : tie.Need-serve-requires
 serve-requires c κs = search rules
 
-same_length : tie.Need-same-length
+same_length : tie.Need-shape_of-matrix
 same_length c = search rules
 
-same-length-2 : tie.Need-same-length-2
+same-length-2 : tie.Need-shape_of-log
 same-length-2 c = search rules
 
-returns : tie.Need-returns
+returns : tie.Need-returns-in-Granted
 returns c =
-    let s = c.before.before.before.before.before.before.before.before.before.before.before.before.before.before.before.before.before.before.before.args in
-    let o = opened _ _ s.matrix.now _ _ (rw c.before.before.before.before.before.before.before.before.before.enum_told.given.1 at c.before.before.before.before.before.before.before.before.before.before.before.judge-front.ensures) in
-    c.before.before.before.before.serve.ensures ∙ rw (c.before.before.before.before.before.before.row-start.ensures, c.before.before.before.before.before.before.before.before.person-of.ensures) (outcome-served s.logins s.classes.now s.clients.now s.by-pairs s.firsts.now s.seconds.now s.persons.now s.matrix.now (request_of s.asked) (log_of s.log.now s.tail) o)
+    let s = c.args in
+    let o = opened _ _ s.matrix.now _ _ (rw c.in-Granted.is at c.judge_front-first.ensures) in
+    c.serve.ensures ∙ rw (c.row_start.ensures, c.person_of-person.ensures) (outcome-served s.logins s.classes.now s.clients.now s.by-pairs s.firsts.now s.seconds.now s.persons.now s.matrix.now (request_of s.asked) (log_of s.log.now s.tail) o)
 
-returns-2 : tie.Need-returns-2
+returns-2 : tie.Need-returns-in_default
 returns-2 c =
-    let s = c.before.before.before.before.before.before.before.before.before.args in
-    outcome-refused (register_by s.logins s.classes.now s.clients.now s.by-pairs s.firsts.now s.seconds.now) s.persons.now s.matrix.now (request_of s.asked) (log_of s.log.now s.tail) _ (not-granted c.before.judge-front.result c.match.keys2) c.before.judge-front.ensures
+    let s = c.args in
+    outcome-refused (register_by s.logins s.classes.now s.clients.now s.by-pairs s.firsts.now s.seconds.now) s.persons.now s.matrix.now (request_of s.asked) (log_of s.log.now s.tail) _ (not-granted c.judge_front-first.result c.in_default.is) c.judge_front-first.ensures
 
 pub request_spec : {M : Type 1} → statement M
 request_spec =

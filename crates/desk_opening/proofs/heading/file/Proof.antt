@@ -12,57 +12,57 @@ use Rattle.desk_opening.proofs.Filed.{Partway, partway-none, partway-more, partw
 use Rattle.desk_opening.proofs.heading.file.Tie as tie
 use Rattle.desk_opening.proofs.heading.file.Statement.{statement}
 
-abbrev invariant-loop : tie.invariant-loop
+abbrev invariant-loop : tie.invariant-loop-class
 invariant-loop text place classes₀ clients₀ folders₀ at₀ classes clients folders at = Partway text place classes₀ clients₀ classes clients folders at
 
-abbrev decreases-loop : tie.decreases-loop
+abbrev decreases-loop : tie.decreases-loop-class
 decreases-loop text place classes₀ clients₀ folders₀ at₀ classes clients folders at = length text - at
 
 -- the line of a turn, which ends after its place
-line : (c : tie.After-class invariant-loop decreases-loop) → line_at c.before.before.before.before.before.before.before.args.text.now c.before.before.before.loop.at ≡ folder_line c.class.given.0.0.0 c.class.given.0.1.0.0 c.class.given.0.1.1.0
-line c = sym c.before.before.read-line.ensures ∙ ap line_of c.class.given.1
+line : (c : tie.In-Folder invariant-loop decreases-loop) → line_at c.args.text.now c.loop-class.at ≡ folder_line c.in-Folder.class.0 c.in-Folder.client.0 c.in-Folder.next
+line c = sym c.read_line.ensures ∙ ap line_of c.in-Folder.is
 
-ahead : (c : tie.After-class invariant-loop decreases-loop) → After c.before.before.before.before.before.before.before.args.text.now c.before.before.before.loop.at c.class.given.0.1.1.0
-ahead c = rw (line c) at (line-ahead c.before.before.before.before.before.before.before.args.text.now c.before.before.before.loop.at)
+ahead : (c : tie.In-Folder invariant-loop decreases-loop) → After c.args.text.now c.loop-class.at c.in-Folder.next
+ahead c = rw (line c) at (line-ahead c.args.text.now c.loop-class.at)
 
-loop-holds : tie.Need-loop-init invariant-loop decreases-loop
+loop-holds : tie.Need-loop-class-init invariant-loop decreases-loop
 loop-holds c =
-    partway-none c.before.before.before.args.text.now c.before.before.before.args.place c.before.before.before.args.classes.now c.before.before.before.args.clients.now
+    partway-none c.args.text.now c.args.place c.args.classes.now c.args.clients.now
 
-read-line-requires : tie.Need-read-line-requires invariant-loop decreases-loop
+read-line-requires : tie.Need-read_line-requires invariant-loop decreases-loop
 read-line-requires c κs = search rules
 
-enum-known-class : tie.Need-enum-known-class invariant-loop decreases-loop
+enum-known-class : tie.Need-enum_known-class invariant-loop decreases-loop
 enum-known-class c = search rules
 
 store-requires : tie.Need-store-requires invariant-loop decreases-loop
 store-requires c κs = search rules
 
-store-requires-2 : tie.Need-store-requires-2 invariant-loop decreases-loop
+store-requires-2 : tie.Need-store-requires-in-Folder invariant-loop decreases-loop
 store-requires-2 c κs = search rules
 
-add-folders : tie.Need-overflow-add-folders invariant-loop decreases-loop
+add-folders : tie.Need-overflow_add-folders invariant-loop decreases-loop
 add-folders c =
-    omega (arith, ahead c.before.before.before.before.before.before.before.before.before, c.before.before.before.before.before.before.before.before.before.before.before.before.loop.invariant.few)
+    omega (arith, ahead c.before.before.before.before.before.before.before.before, c.loop-class.invariant.few)
 
-loop-less : tie.Need-loop-smaller invariant-loop decreases-loop
-loop-less c = omega (arith, ahead c.before.before.before.before.before.before.before.before.before)
+loop-less : tie.Need-loop-class-smaller invariant-loop decreases-loop
+loop-less c = omega (arith, ahead c.before.before.before.before.before.before.before.before)
 
-loop-again : tie.Need-loop-preserved invariant-loop decreases-loop
+loop-again : tie.Need-loop-class-preserved invariant-loop decreases-loop
 loop-again c =
-    let a = c.before.before.before.before.before.before.before.before.before.before.before.before.before.before.before.before.args in
-    rw (c.before.before.before.before.before.before.store.ensures, c.before.before.store2.ensures) (partway-more a.text.now a.place a.classes.now a.clients.now _ _ _ _ _ _ _ c.before.before.before.before.before.before.before.before.before.before.before.before.loop.invariant (line c.before.before.before.before.before.before.before.before.before))
+    let a = c.args in
+    rw (c.store.ensures, c.store-in-Folder.ensures) (partway-more a.text.now a.place a.classes.now a.clients.now _ _ _ _ _ _ _ c.loop-class.invariant (line c.before.before.before.before.before.before.before.before))
 
-same_length : tie.Need-same-length invariant-loop decreases-loop
-same_length c = c.before.before.loop.invariant.room
+same_length : tie.Need-shape_of-classes-in_default invariant-loop decreases-loop
+same_length c = c.loop-class.invariant.room
 
-same-length-2 : tie.Need-same-length-2 invariant-loop decreases-loop
-same-length-2 c = c.before.before.loop.invariant.room₂
+same-length-2 : tie.Need-shape_of-clients-in_default invariant-loop decreases-loop
+same-length-2 c = c.loop-class.invariant.room₂
 
-returns : tie.Need-returns invariant-loop decreases-loop
+returns : tie.Need-returns-in_default invariant-loop decreases-loop
 returns c =
-    let a = c.before.before.before.before.before.before.args in
-    partway-all a.text.now a.place a.classes.now a.clients.now _ _ _ _ c.before.before.loop.invariant (filed-on a.text.now c.before.before.loop.at ∙ rw (← c.before.read-line.ensures) (no-folder c.before.read-line.result c.before.before.loop.at (filed_at a.text.now) c.match.keys2))
+    let a = c.args in
+    partway-all a.text.now a.place a.classes.now a.clients.now _ _ _ _ c.loop-class.invariant (filed-on a.text.now c.loop-class.at ∙ rw (← c.read_line.ensures) (no-folder c.read_line.result c.loop-class.at (filed_at a.text.now) c.in_default.not-Folder))
 
 pub file_spec : {M : Type 1} → statement M
 file_spec =

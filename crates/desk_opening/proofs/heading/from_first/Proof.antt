@@ -4,28 +4,28 @@ use Rattle.desk_opening.proofs.Arms.{no-logins}
 use Rattle.desk_opening.proofs.heading.from_first.Tie as tie
 use Rattle.desk_opening.proofs.heading.from_first.Statement.{statement}
 
-read-line-requires : tie.Need-read-line-requires
+read-line-requires : tie.Need-read_line-requires
 read-line-requires c κs = search rules
 
-enum-known-n : tie.Need-enum-known-n
+enum-known-n : tie.Need-enum_known-n
 enum-known-n c = search rules
 
-from-folders-requires : tie.Need-from-folders-requires
+from-folders-requires : tie.Need-from_folders-requires
 from-folders-requires c κs = search rules
 
-bad-line-requires : tie.Need-bad-line-requires
+bad-line-requires : tie.Need-bad_line-requires
 bad-line-requires c κs = search rules
 
 closed-requires : tie.Need-closed-requires
 closed-requires c κs = search rules
 
-returns : tie.Need-returns
+returns : tie.Need-returns-in-Logins
 returns c =
-    rw (c.from-folders.ensures, ← c.before.before.before.before.read-line.ensures, c.before.before.n.given.1)
+    rw (c.from_folders.ensures, ← c.read_line.ensures, c.in-Logins.is)
 
-returns-2 : tie.Need-returns-2
+returns-2 : tie.Need-returns-in_default
 returns-2 c =
-    rw (c.closed.ensures, c.before.bad-line.ensures, ← c.before.before.before.read-line.ensures, no-logins c.before.before.before.read-line.result c.before.before.before.before.before.args.text.now c.before.before.match.keys2)
+    rw (c.closed.ensures, c.bad_line.ensures, ← c.read_line.ensures, no-logins c.read_line.result c.args.text.now c.in_default.not-Logins)
 
 pub from_first_spec : {M : Type 1} → statement M
 from_first_spec =

@@ -9,53 +9,53 @@ use borrow.Author.Rules.{rules}
 use Rattle.monitor.proofs.front.known.Statement.{statement}
 use Rattle.monitor.proofs.front.known.Tie as tie
 
-mul-if1 : tie.Need-overflow-mul-if1
+mul-if1 : tie.Need-overflow_mul-logins
 mul-if1 c =
-    omega (arith, product-fits c.before.requires.0 c.before.requires.1)
+    omega (arith, product-fits c.requires.0 c.requires.1)
 
-returns : tie.Need-returns
+returns : tie.Need-returns-then-size-logins
 unfolding four_to_seven front_checks judge
 returns c =
-    rw (ne_eqb _ _ c.if1.true)
+    rw (ne_eqb _ _ c.if-size-logins.true)
 
-cast-if2 : tie.Need-overflow-cast-if2
+cast-if2 : tie.Need-overflow_cast-asked
 cast-if2 c = search rules
 
-returns-2 : tie.Need-returns-2
+returns-2 : tie.Need-returns-then-logins-asked
 unfolding four_to_seven front_checks judge
 returns-2 c =
-    rw (eq-eqb _ _ c.before.before.if1.false, le-leb _ _ c.if2.true)
+    rw (eq-eqb _ _ c.if-size-logins.false, le-leb _ _ c.if-logins-asked.true)
 
-bad-persons-requires : tie.Need-bad-persons-requires
+bad-persons-requires : tie.Need-bad_persons-requires
 bad-persons-requires c κs = search rules
 
-returns-3 : tie.Need-returns-3
+returns-3 : tie.Need-returns-then-bad_persons
 unfolding four_to_seven front_checks judge
 returns-3 c =
-    rw (eq-eqb _ _ c.before.before.before.before.if1.false, lt-leb _ _ c.before.before.if2.false, sym c.before.bad-persons.ensures ∙ c.if3.true)
+    rw (eq-eqb _ _ c.if-size-logins.false, lt-leb _ _ c.if-logins-asked.false, sym c.bad_persons.ensures ∙ c.if-bad_persons.true)
 
-cast-if4 : tie.Need-overflow-cast-if4
+cast-if4 : tie.Need-overflow_cast-asked-2
 cast-if4 c = search rules
 
-returns-4 : tie.Need-returns-4
+returns-4 : tie.Need-returns-then-folders-asked
 unfolding four_to_seven front_checks judge
 returns-4 c =
-    rw (eq-eqb _ _ c.before.before.before.before.before.before.if1.false, lt-leb _ _ c.before.before.before.before.if2.false, sym c.before.before.before.bad-persons.ensures ∙ c.before.before.if3.false, le-leb _ _ c.if4.true)
+    rw (eq-eqb _ _ c.if-size-logins.false, lt-leb _ _ c.if-logins-asked.false, sym c.bad_persons.ensures ∙ c.if-bad_persons.false, le-leb _ _ c.if-folders-asked.true)
 
-returns-5 : tie.Need-returns-5
+returns-5 : tie.Need-returns-then-asked-lt1
 unfolding four_to_seven front_checks judge
 returns-5 c =
-    rw (eq-eqb _ _ c.before.before.before.before.before.before.before.before.if1.false, lt-leb _ _ c.before.before.before.before.before.before.if2.false, sym c.before.before.before.before.before.bad-persons.ensures ∙ c.before.before.before.before.if3.false, lt-leb _ _ c.before.before.if4.false, lt-leb _ _ c.if5.true)
+    rw (eq-eqb _ _ c.if-size-logins.false, lt-leb _ _ c.if-logins-asked.false, sym c.bad_persons.ensures ∙ c.if-bad_persons.false, lt-leb _ _ c.if-folders-asked.false, lt-leb _ _ c.if-asked-lt1.true)
 
-returns-6 : tie.Need-returns-6
+returns-6 : tie.Need-returns-then-asked-gt4
 unfolding four_to_seven front_checks judge
 returns-6 c =
-    rw (eq-eqb _ _ c.before.before.before.before.before.before.before.before.before.before.if1.false, lt-leb _ _ c.before.before.before.before.before.before.before.before.if2.false, sym c.before.before.before.before.before.before.before.bad-persons.ensures ∙ c.before.before.before.before.before.before.if3.false, lt-leb _ _ c.before.before.before.before.if4.false, le-leb _ _ c.before.before.if5.false, lt-leb _ _ c.if6.true)
+    rw (eq-eqb _ _ c.if-size-logins.false, lt-leb _ _ c.if-logins-asked.false, sym c.bad_persons.ensures ∙ c.if-bad_persons.false, lt-leb _ _ c.if-folders-asked.false, le-leb _ _ c.if-asked-lt1.false, lt-leb _ _ c.if-asked-gt4.true)
 
-returns-7 : tie.Need-returns-7
+returns-7 : tie.Need-returns
 unfolding four_to_seven front_checks judge
 returns-7 c =
-    rw (eq-eqb _ _ c.before.before.before.before.before.before.before.before.before.before.if1.false, lt-leb _ _ c.before.before.before.before.before.before.before.before.if2.false, sym c.before.before.before.before.before.before.before.bad-persons.ensures ∙ c.before.before.before.before.before.before.if3.false, lt-leb _ _ c.before.before.before.before.if4.false, le-leb _ _ c.before.before.if5.false, le-leb _ _ c.if6.false)
+    rw (eq-eqb _ _ c.if-size-logins.false, lt-leb _ _ c.if-logins-asked.false, sym c.bad_persons.ensures ∙ c.if-bad_persons.false, lt-leb _ _ c.if-folders-asked.false, le-leb _ _ c.if-asked-lt1.false, le-leb _ _ c.if-asked-gt4.false)
 
 pub known_spec : {M : Type 1} → statement M
 known_spec =
