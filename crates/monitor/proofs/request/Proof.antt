@@ -36,12 +36,12 @@ returns : tie.Need-returns-in-Granted
 returns c =
     let s = c.args in
     let o = opened _ _ s.matrix.now _ _ (rw c.in-Granted.is at c.judge_front-first.ensures) in
-    c.serve.ensures ∙ rw (c.row_start.ensures, c.person_of-person.ensures) (outcome-served s.logins s.classes.now s.clients.now s.by-pairs s.firsts.now s.seconds.now s.persons.now s.matrix.now (request_of s.asked) (log_of s.log.now s.tail) o)
+    c.serve.ensures ∙ rw (c.row_start.ensures, c.person_of-person.ensures) (outcome-served s.logins s.classes.now s.clients.now s.by_pairs s.firsts.now s.seconds.now s.persons.now s.matrix.now (request_of s.asked) (log_of s.log.now s.tail) o)
 
 returns-2 : tie.Need-returns-in_default
 returns-2 c =
     let s = c.args in
-    outcome-refused (register_by s.logins s.classes.now s.clients.now s.by-pairs s.firsts.now s.seconds.now) s.persons.now s.matrix.now (request_of s.asked) (log_of s.log.now s.tail) _ (not-granted c.judge_front-first.result c.in_default.is) c.judge_front-first.ensures
+    outcome-refused (register_by s.logins s.classes.now s.clients.now s.by_pairs s.firsts.now s.seconds.now) s.persons.now s.matrix.now (request_of s.asked) (log_of s.log.now s.tail) _ (not-granted c.judge_front-first.result c.in_default.not-Granted) c.judge_front-first.ensures
 
 pub request_spec : {M : Type 1} → statement M
 request_spec =

@@ -53,14 +53,14 @@ returns-3 : tie.Need-returns-in-LoneZero
 returns-3 c =
     let a = c.args in
     let r = register_by a.logins a.classes.now a.clients.now a.by_pairs a.firsts.now a.seconds.now in
-    let told = answer 2 (c.in-LoneZero.verdict.0 ∷ []) in
+    let told = answer 2 (c.in-LoneZero.f.0 ∷ []) in
     register-refused r _ _ _ told (λ z. omega arith) (answer-refused r told refl (rw c.in-LoneZero.is at c.check_labels-verdict.ensures))
 
 returns-4 : tie.Need-returns-in-TwoClasses
 returns-4 c =
     let a = c.args in
     let r = register_by a.logins a.classes.now a.clients.now a.by_pairs a.firsts.now a.seconds.now in
-    let told = answer 3 (c.in-TwoClasses.verdict.0 ∷ c.in-TwoClasses.given.0.1.0.0 ∷ []) in
+    let told = answer 3 (c.in-TwoClasses.f.0 ∷ c.in-TwoClasses.g.0 ∷ []) in
     register-refused r _ _ _ told (λ z. omega arith) (answer-refused r told refl (rw c.in-TwoClasses.is at c.check_labels-verdict.ensures))
 
 returns-5 : tie.Need-returns-in-BadPairs
