@@ -8,19 +8,19 @@ use Rattle.desk_core.proofs.ending.Statement.{statement}
 nothing-requires : tie.Need-nothing-requires
 nothing-requires c κs = search rules
 
-returns : tie.Need-returns
+returns : tie.Need-returns-then-text-place
 unfolding ending
-returns c = rw (c.nothing.ensures, le-leb _ _ c.before.if1.true)
+returns c = rw (c.nothing.ensures, le-leb _ _ c.if-text-place.true)
 
-line-number-requires : tie.Need-line-number-requires
+line-number-requires : tie.Need-line_number-requires
 line-number-requires c κs = search rules
 
-bad-line-requires : tie.Need-bad-line-requires
+bad-line-requires : tie.Need-bad_line-requires
 bad-line-requires c κs = search rules
 
-returns-2 : tie.Need-returns-2
+returns-2 : tie.Need-returns
 unfolding ending
-returns-2 c = rw (c.bad-line.ensures, c.before.line-number.ensures, lt-leb _ _ c.before.before.if1.false)
+returns-2 c = rw (c.bad_line.ensures, c.line_number.ensures, lt-leb _ _ c.if-text-place.false)
 
 pub ending_spec : {M : Type 1} → statement M
 ending_spec = tie.close (tie.spec nothing-requires returns line-number-requires bad-line-requires returns-2)

@@ -11,42 +11,36 @@ use borrow.Author.Rules.{rules}
 use Rattle.desk_core.proofs.step.Statement.{statement}
 use Rattle.desk_core.proofs.step.Tie as tie
 
-read-line-requires : tie.Need-read-line-requires
+read-line-requires : tie.Need-read_line-requires
 read-line-requires c κs = search rules
 
-enum-known-asked : tie.Need-enum-known-asked
+enum-known-asked : tie.Need-enum_known-asked
 enum-known-asked c = search rules
 
-slice-aggregate-request : tie.Need-slice-aggregate-request
-slice-aggregate-request c = search rules
-
-slice-aggregate-request-2 : tie.Need-slice-aggregate-request-2
-slice-aggregate-request-2 c = search rules
-
-request-requires : tie.Need-request-requires
+request-requires : tie.Need-request-reply-requires
 request-requires c κs = search rules
 
-answer-line-requires : tie.Need-answer-line-requires
+answer-line-requires : tie.Need-answer_line-requires
 answer-line-requires c κs = search rules
 
 ending-requires : tie.Need-ending-requires
 ending-requires c κs = search rules
 
-same_length : tie.Need-same-length
+same_length : tie.Need-shape_of-matrix
 same_length c = search rules
 
-same-length-2 : tie.Need-same-length-2
+same-length-2 : tie.Need-shape_of-log
 same-length-2 c = search rules
 
-returns : tie.Need-returns
+returns : tie.Need-returns-in-Request
 returns c =
-    let a = c.before.before.before.before.before.before.before.before.before.before.before.before.before.before.before.before.before.before.before.before.before.before.args in
-    stepped-request a.text.now (register_of a.logins a.classes.now a.clients.now) a.persons.now a.place a.matrix.now (log_of a.log.now a.tail) _ _ _ _ (sym c.before.before.before.before.before.before.before.before.before.before.before.before.before.before.before.read-line.ensures ∙ ap line_of c.before.before.before.before.before.before.before.before.before.before.before.before.before.asked.given.1) (omega (arith, c.before.before.before.before.before.before.before.before.before.before.before.before.before.before.before.before.before.before.before.before.before.before.well-formed.1.1.1.1.1.1.1.1.0.1.1.1.0.1)) c.before.before.before.before.before.before.before.request.result _ _ _ c.before.before.before.before.before.before.before.request.ensures c.answer-line.ensures
+    let a = c.args in
+    stepped-request a.text.now (register_of a.logins a.classes.now a.clients.now) a.persons.now a.place a.matrix.now (log_of a.log.now a.tail) _ _ _ _ (sym c.read_line.ensures ∙ ap line_of c.in-Request.is) (omega arith) c.request-reply.result _ _ _ c.request-reply.ensures c.answer_line.ensures
 
-returns-2 : tie.Need-returns-2
+returns-2 : tie.Need-returns-in_default
 returns-2 c =
-    let a = c.before.before.before.before.before.before.before.before.before.args in
-    rw (c.ending.ensures, stepped-over a.text.now (register_of a.logins a.classes.now a.clients.now) a.persons.now a.place a.matrix.now (log_of a.log.now a.tail) (rw (← c.before.before.read-line.ensures) (no-request c.before.before.read-line.result c.before.match.keys2)))
+    let a = c.args in
+    rw (c.ending.ensures, stepped-over a.text.now (register_of a.logins a.classes.now a.clients.now) a.persons.now a.place a.matrix.now (log_of a.log.now a.tail) (rw (← c.read_line.ensures) (no-request c.read_line.result c.in_default.not-Request)))
 
 pub step_spec : {M : Type 1} → statement M
 step_spec =
@@ -54,8 +48,6 @@ step_spec =
     (tie.spec
     read-line-requires
     enum-known-asked
-    slice-aggregate-request
-    slice-aggregate-request-2
     request-requires
     answer-line-requires
     ending-requires

@@ -7,12 +7,12 @@ use Rattle.housechervil.proofs.hc_folder_name.Tie as tie
 find-requires : tie.Need-find-requires
 find-requires c κs = search rules
 
-in-numbers-requires : tie.Need-in-numbers-requires
+in-numbers-requires : tie.Need-in_numbers-requires
 in-numbers-requires c κs = search rules
 
 returns : tie.Need-returns
 returns c =
-    c.in-numbers.ensures ∙ c.before.find.ensures
+    c.in_numbers.ensures ∙ c.find.ensures
 
 pub hc_folder_name_spec : {M : Type 1} → statement M
 hc_folder_name_spec = tie.close (tie.spec find-requires in-numbers-requires returns)

@@ -11,7 +11,7 @@ checked-requires c κs = search rules
 
 returns : tie.Need-returns
 returns c =
-    rw (c.checked.ensures, c.before.check.ensures)
+    rw (c.checked.ensures, c.check.ensures)
 
 pub hc_log_check_spec : {M : Type 1} → statement M
 hc_log_check_spec = tie.close (tie.spec check-requires checked-requires returns)

@@ -6,7 +6,7 @@ use Rattle.housechervil.specs.Records.{log_item}
 use Rattle.housechervil.proofs.hc_log_step.Statement.{statement}
 use Rattle.housechervil.proofs.hc_log_step.Tie as tie
 
-step-from-requires : tie.Need-step-from-requires
+step-from-requires : tie.Need-step_from-advance-requires
 step-from-requires c κs = search rules
 
 item-requires : tie.Need-item-requires
@@ -14,7 +14,7 @@ item-requires c κs = search rules
 
 returns : tie.Need-returns
 returns c =
-    rw c.item.ensures (ap (λ (x : Advanced). log_item x.item) c.before.step_from.ensures)
+    rw c.item.ensures (ap (λ (x : Advanced). log_item x.item) c.step_from-advance.ensures)
 
 pub hc_log_step_spec : {M : Type 1} → statement M
 hc_log_step_spec = tie.close (tie.spec step-from-requires item-requires returns)

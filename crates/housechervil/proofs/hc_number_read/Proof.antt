@@ -11,7 +11,7 @@ decoded-requires c κs = search rules
 
 returns : tie.Need-returns
 returns c =
-    rw (c.decoded.ensures, c.before.read.ensures)
+    rw (c.decoded.ensures, c.read.ensures)
 
 pub hc_number_read_spec : {M : Type 1} → statement M
 hc_number_read_spec = tie.close (tie.spec read-requires decoded-requires returns)

@@ -11,12 +11,12 @@ pack-requires c κs = search rules
 packing-requires : tie.Need-packing-requires
 packing-requires c κs = search rules
 
-same_length : tie.Need-same-length
+same_length : tie.Need-shape_of-packed
 same_length c = search rules
 
 returns : tie.Need-returns
 returns c =
-    rw c.packing.ensures (ap copied c.before.before.before.pack.ensures)
+    rw c.packing.ensures (ap copied c.pack.ensures)
 
 pub hc_pack_spec : {M : Type 1} → statement M
 hc_pack_spec = tie.close (tie.spec pack-requires packing-requires same_length returns)

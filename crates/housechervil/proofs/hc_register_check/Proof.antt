@@ -11,7 +11,7 @@ verdict-requires c κs = search rules
 
 returns : tie.Need-returns
 returns c =
-    rw (c.verdict.ensures, c.before.check.ensures)
+    rw (c.verdict.ensures, c.check.ensures)
 
 pub hc_register_check_spec : {M : Type 1} → statement M
 hc_register_check_spec = tie.close (tie.spec check-requires verdict-requires returns)

@@ -16,15 +16,15 @@ request-requires c κs = search rules
 reply-requires : tie.Need-reply-requires
 reply-requires c κs = search rules
 
-same_length : tie.Need-same-length
+same_length : tie.Need-shape_of-matrix
 same_length c = search rules
 
-same-length-2 : tie.Need-same-length-2
+same-length-2 : tie.Need-shape_of-log
 same-length-2 c = search rules
 
 returns : tie.Need-returns
 returns c =
-    rw c.reply.ensures (ap told c.before.before.before.before.before.request.ensures)
+    rw c.reply.ensures (ap told c.request.ensures)
 
 pub hc_request_spec : {M : Type 1} → statement M
 hc_request_spec =

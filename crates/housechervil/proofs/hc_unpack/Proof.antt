@@ -11,12 +11,12 @@ unpack-requires c κs = search rules
 unpacking-requires : tie.Need-unpacking-requires
 unpacking-requires c κs = search rules
 
-same_length : tie.Need-same-length
+same_length : tie.Need-shape_of-cells
 same_length c = search rules
 
 returns : tie.Need-returns
 returns c =
-    rw c.unpacking.ensures (ap copied c.before.before.before.unpack.ensures)
+    rw c.unpacking.ensures (ap copied c.unpack.ensures)
 
 pub hc_unpack_spec : {M : Type 1} → statement M
 hc_unpack_spec = tie.close (tie.spec unpack-requires unpacking-requires same_length returns)

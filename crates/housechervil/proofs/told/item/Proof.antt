@@ -3,38 +3,38 @@ use borrow.Author.Rules.{rules}
 use Rattle.housechervil.proofs.told.item.Statement.{statement}
 use Rattle.housechervil.proofs.told.item.Tie as tie
 
-enum-known-i : tie.Need-enum-known-i
+enum-known-i : tie.Need-enum_known-i
 enum-known-i c = search rules
 
 entry-requires : tie.Need-entry-requires
 entry-requires c κs = search rules
 
-enum-known-i-2 : tie.Need-enum-known-i-2
+enum-known-i-2 : tie.Need-enum_known-i-in-End-1
 enum-known-i-2 c = search rules
 
-no-record-requires : tie.Need-no-record-requires
+no-record-requires : tie.Need-no_record-requires
 no-record-requires c κs = search rules
 
-enum-known-i-3 : tie.Need-enum-known-i-3
+enum-known-i-3 : tie.Need-enum_known-i-in-Refused-1
 enum-known-i-3 c = search rules
 
-fault-requires : tie.Need-fault-requires
+fault-requires : tie.Need-fault-refusal-requires
 fault-requires c κs = search rules
 
-no-record-requires-2 : tie.Need-no-record-requires-2
+no-record-requires-2 : tie.Need-no_record-requires-in-Refused
 no-record-requires-2 c κs = search rules
 
-returns : tie.Need-returns
+returns : tie.Need-returns-in-Record
 returns c =
-    rw (c.entry.ensures, c.before.before.i.given.1)
+    rw (c.entry.ensures, c.in-Record.is)
 
-returns-2 : tie.Need-returns-2
+returns-2 : tie.Need-returns-in-End
 returns-2 c =
-    rw (c.no_record.ensures, c.before.before.i2.given.1)
+    rw (c.no_record.ensures, c.in-End.is)
 
-returns-3 : tie.Need-returns-3
+returns-3 : tie.Need-returns-in-Refused
 returns-3 c =
-    rw (c.no-record2.ensures, c.before.fault.ensures, c.before.before.before.i3.given.1)
+    rw (c.no_record-in-Refused.ensures, c.fault-refusal.ensures, c.in-Refused.is)
 
 pub item_spec : {M : Type 1} → statement M
 item_spec =
