@@ -1,7 +1,7 @@
 // The desk (document 01, 'The desk program'): standard input to `desk_opening` and `desk_core` to standard output, nothing else.
 #![tactic(auto)]
 
-ghost use Rattle.std.specs.Prelude.{◌≡◌, length};
+ghost use Rattle.std.specs.Prelude.{◌≡◌, ◌≤◌, length, IfOk};
 
 use desk_opening::Opening;
 use log_writer::Tail;
@@ -11,14 +11,29 @@ use text_lines::Text;
 
 fn main(rt: HostRuntime) -> io::Result<()> {
     // one byte more than the desk takes, so that a longer input is seen to be one
-    let mut input = Vec::new(rt.alloc());
-    rt.stdin().take(65537).read_to_end(&mut input)?;
-    let opening = desk_opening::open(&input);
+    let mut input = [0u8; 65537];
+    let n = read_full(&mut rt.stdin(), &mut input)?;
+    let opening = desk_opening::open(&input[0..n]);
     show(&rt, &opening.text)?;
     if opening.onward {
-        serve(&rt, &input, opening)?;
+        serve(&rt, &input[0..n], opening)?;
     }
     Ok(())
+}
+
+// Fills the buffer from the input, as far as there is some: how many bytes were read. A short read is gone on with.
+fn read_full(input: &mut impl Read, bytes: &mut [u8]) -> io::Result<usize>
+    ensures { IfOk result (λ n. n ≤ length bytes.new) }
+{
+    let mut n = 0;
+    while n < bytes.len() {
+        let got = input.read(&mut bytes[n..])?;
+        if got == 0 {
+            break;
+        }
+        n += got;
+    }
+    Ok(n)
 }
 
 // Writes a printed text, which is never longer than its buffer.
