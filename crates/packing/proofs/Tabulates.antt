@@ -1,13 +1,12 @@
 -- Laws of tabulated lists: length, elements, filling place by place.
-use Prim.Native.Nat.{ℕ, zero, suc, ◌+◌, ◌≤◌, ◌<◌}
+use Prim.Native.Nat.{ℕ, zero, suc, ◌+◌, ◌<◌}
 use mathlib.Core.List.{List, [], append_assoc, append-nil}
-use mathlib.Core.Path.{◌≡◌, refl, ap, ◌∙◌}
+use mathlib.Core.Path.{◌≡◌, refl, ◌∙◌}
 use native.Mathlib.Numerals.{add-one}
 use native.Mathlib.Nat.{le_of_eq}
 use native.Mathlib.Decide.{le_ind}
-use native.Mathlib.Omega.{arith}
-use lib.ListN.{length, get_or, drop, set, length-append, get_or-append, drop_of_length-le}
-use lib.Seq.{drop-cons, drop_at, set_at, get_or_at}
+use lib.ListN.{length, get_or, set, length-append, get_or-append, drop_of_length-le}
+use lib.Seq.{drop-cons, set_at, get_or_at}
 use Rattle.packing.specs.Cut.{filled}
 use Rattle.packing.specs.Tabulate.{tabulate}
 

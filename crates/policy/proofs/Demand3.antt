@@ -7,7 +7,7 @@ use mathlib.Core.List.{List, [], ◌∷◌}
 use native.Mathlib.Decide.{ℕ_discrete}
 use lib.Dec.{eqb, leb}
 use borrow.Author.Tests.{eqb-true, not-false, leb-false}
-use Rattle.vocabulary.specs.Answer.{Answer, answer}
+use Rattle.vocabulary.specs.Answer.{Answer}
 use Rattle.vocabulary.proofs.Judge.{Passed}
 use Rattle.vocabulary.proofs.Bools.{not-both, true-or-false}
 use Rattle.person_list.specs.PersonList.{person_of}

@@ -1,8 +1,8 @@
 -- Laws of the outcome: what an answer of 0, 20, 21 or 22 tells, and what any other leaves.
 use Prim.Native.Nat.{ℕ, ◌-◌}
-use mathlib.Core.Path.{◌≡◌, refl, sym, ap, ◌∙◌}
+use mathlib.Core.Path.{◌≡◌, refl, ap, ◌∙◌}
 use mathlib.Core.Logic.{◌⊎◌, inl, inr, ⊎_elim}
-use mathlib.Core.Bool.{Bool, true, false, not, cond, ◌&&◌, ◌||◌}
+use mathlib.Core.Bool.{Bool, true, false, cond, ◌||◌}
 use mathlib.Core.List.{List, [], ◌∷◌, ◌++◌}
 use lib.ListN.{length}
 use lib.Dec.{eqb, ltb}
@@ -14,7 +14,7 @@ use Rattle.log_bytes.specs.Record.{record_bytes}
 use Rattle.person_list.specs.PersonList.{person_of}
 use Rattle.register.specs.Register.{Register, register_checks}
 use Rattle.policy.specs.Rules.{row_of}
-use Rattle.policy.specs.Outcome.{Request, Log, Outcome, request_checks, wall_answer, decision, by_wall, is_logged, record_of, unchanged, matrix_after, logged, outcome}
+use Rattle.policy.specs.Outcome.{Request, Log, request_checks, wall_answer, decision, by_wall, is_logged, record_of, unchanged, matrix_after, logged, outcome}
 
 -- Whether a table's check of this number fails, wherever it stands.
 abbrev pub fails_at : ℕ → List Check → Bool

@@ -1,21 +1,19 @@
 -- The matrix shows just the rights that stand: what its cells tell, at first and after a grant.
 use Prim.Native.Nat.{ℕ, ◌+◌, ◌*◌, ◌≤◌, ◌<◌}
 use mathlib.Core.Path.{◌≡◌, refl, sym, ap, ◌∙◌}
-use mathlib.Core.Logic.{◌⊎◌, inl, inr, ⊎_elim}
-use mathlib.Core.Bool.{Bool, true, false, not, ◌&&◌, ◌||◌, and-false, or-false, and-true}
-use mathlib.Core.List.{List, [], ◌∷◌}
+use mathlib.Core.Bool.{Bool, true, false, and-false, or-false, and-true}
+use mathlib.Core.List.{List}
 use native.Mathlib.Omega.{arith}
 use native.Mathlib.Decide.{dec_lt, ℕ_discrete}
-use lib.ListN.{length, get_or, take, drop, replicate, length-replicate, length-take, get_or-replicate, get_or-eq_default}
+use lib.ListN.{length, get_or, drop, replicate, length-replicate, length-take, get_or-replicate, get_or-eq_default}
 use lib.Seq.{get_or-take, get_or-drop}
-use lib.Dec.{eqb, ltb}
+use lib.Dec.{eqb}
 use borrow.Author.Tests.{ne_eqb, lt-ltb}
-use Rattle.vocabulary.specs.Those.{those, member}
 use Rattle.vocabulary.proofs.Those.{member-those}
 use Rattle.vocabulary.proofs.Each.{length-each, get_d-each}
 use Rattle.vocabulary.proofs.Bools.{not-both, eqb-self}
 use Rattle.register.specs.Register.{Register, folders}
-use Rattle.policy.specs.Rules.{row_of, with_row, cell, can_read, can_write, cell_for, reads, writes, revokes, at_stake, lost, cell_after, row_after}
+use Rattle.policy.specs.Rules.{row_of, with_row, cell, can_read, can_write, cell_for, lost, cell_after, row_after}
 use Rattle.policy.specs.Wall.{Rights, after_grant}
 use Rattle.policy.specs.History.{State, blank}
 use Rattle.policy.specs.Demand3.{Shows, cell_standing}

@@ -4,7 +4,7 @@ use mathlib.Core.Path.{◌≡◌, refl, sym, ap, ◌∙◌}
 use mathlib.Core.Bool.{Bool, true, false}
 use mathlib.Core.List.{List}
 use lib.ListN.{length}
-use Rattle.vocabulary.specs.Answer.{Answer, judge}
+use Rattle.vocabulary.specs.Answer.{judge}
 use Rattle.vocabulary.specs.Those.{those}
 use Rattle.vocabulary.specs.Each.{each}
 use Rattle.vocabulary.proofs.Judge.{judge-append, judge-passed}

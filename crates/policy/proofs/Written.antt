@@ -1,5 +1,5 @@
 -- An accepted register by classes can be written out in pairs: each two clients of one class stand there once, by their first folders.
-use Prim.Native.Nat.{ℕ, zero, suc, ◌+◌, ◌≤◌, ◌<◌}
+use Prim.Native.Nat.{ℕ, zero, suc, ◌≤◌, ◌<◌}
 use mathlib.Core.Path.{◌≡◌, refl, sym, ap, ◌∙◌}
 use mathlib.Core.Logic.{◌⊎◌, inl, inr, ⊎_elim}
 use mathlib.Core.Bool.{true, false, ◌&&◌, or-true, false≢true}
@@ -12,7 +12,7 @@ use borrow.Author.Tests.{eq-eqb, eqb-true, lt-ltb}
 use Rattle.vocabulary.specs.Those.{those, some, smallest, member}
 use Rattle.vocabulary.proofs.Those.{those-empty, those-holds, smallest-holds, some-none, member-those, below_suc}
 use Rattle.vocabulary.proofs.Bools.{both, either, not-both, true-or-false, eqb-self}
-use Rattle.register.specs.Register.{Register, folders, client_of, pairs}
+use Rattle.register.specs.Register.{Register, folders, client_of}
 use Rattle.policy.specs.Conflict.{one_class, pair_names, paired}
 use Rattle.policy.specs.Modes.{in_pairs, OneClassOf, new_client, facing, written_firsts, written_seconds, CanBeWritten}
 use Rattle.policy.proofs.Conflict.{ConflictLaws, by-classes, pairs-turned}

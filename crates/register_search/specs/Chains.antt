@@ -1,5 +1,5 @@
 -- Internal: the table by which refusal 3 is sought in one pass. No rule of document 01 stands here.
-use Rattle.std.specs.Prelude.{ℕ, zero, suc, ◌+◌, ◌-◌, ◌≤◌, ◌<◌, ◌/◌, ◌%◌, ◌≡◌, Bool, cond, List, length, get_or, eqb}
+use Rattle.std.specs.Prelude.{ℕ, zero, suc, ◌+◌, ◌≤◌, ◌<◌, ◌/◌, ◌%◌, ◌≡◌, Bool, cond, List, length, get_or, eqb}
 use Rattle.register_search.specs.declared.table.Sought.{Sought}
 use Rattle.register_search.specs.declared.table.Sought.TheVariants.{Past, GaveUp}
 

@@ -2,7 +2,6 @@
 use native.Mathlib.Omega.{arith}
 use mathlib.Core.Bool.{true}
 use mathlib.Core.Path.{◌≡◌, sym, ◌∙◌}
-use borrow.Author.Tests.{not-true, not-false}
 use borrow.Author.Rules.{rules}
 use Rattle.numerals.specs.Numbers.{is_digit, byte_at}
 use Rattle.numerals.proofs.Digits.{digit-inside, number-none, number-zero, number-on}

@@ -2,7 +2,6 @@
 use mathlib.Core.Bool.{true}
 use mathlib.Core.Path.{◌≡◌, sym, ◌∙◌}
 use native.Mathlib.Omega.{arith}
-use borrow.Author.Tests.{not-true, not-false}
 use borrow.Author.Rules.{rules}
 use Rattle.register.specs.Register.{Register, register_of, in_range}
 use Rattle.register.proofs.Answers.{Ranged, in_range-ranged, answer-range}

@@ -11,9 +11,6 @@ use native.Mathlib.Omega.{arith}
 use borrow.Author.Rules.{rules}
 use Rattle.register_pairs.proofs.any_bad_pair.Statement.{statement}
 use Rattle.register_pairs.proofs.any_bad_pair.Tie as tie
-use Rattle.register_pairs.proofs.any_bad_pair.Reads as reads
-use Rattle.register_pairs.proofs.any_bad_pair.Lts as lts
-use Rattle.register_pairs.proofs.bad_pair.Reads as bad-pair-reads
 
 abbrev invariant-loop : tie.invariant-loop-i
 invariant-loop firsts seconds any₀ i₀ any i = (i ≤ length firsts) × (any ≡ some (those (bad_pair (register_by 0 [] [] true firsts seconds)) i))

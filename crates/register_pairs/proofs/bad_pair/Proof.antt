@@ -2,9 +2,6 @@
 use borrow.Author.Rules.{rules}
 use Rattle.register_pairs.proofs.bad_pair.Statement.{statement}
 use Rattle.register_pairs.proofs.bad_pair.Tie as tie
-use Rattle.register_pairs.proofs.bad_pair.Reads as reads
-use Rattle.register_pairs.proofs.bad_pair.Lts as lts
-use Rattle.ids.proofs.same_client.Reads as same-client-reads
 
 same-client-requires : tie.Need-same_client-requires
 same-client-requires c κs = search rules

@@ -1,6 +1,5 @@
 -- `decide_by_classes` meets its contract: rows 1 and 6 of the table, then the wall's, by classes.
 use Rattle.row.proofs.Cut.{ruled_past-rival, ruled_past-none, walked, says-unfit, says-unknown, says-wall}
-use borrow.Author.Tests.{not-true, not-false}
 use mathlib.Core.Path.{refl, sym, ◌∙◌}
 use borrow.Author.Rules.{rules}
 use Rattle.row.proofs.decide_by_classes.Statement.{statement}

@@ -1,6 +1,5 @@
 -- `decide_by_pairs` meets its contract: rows 1, 11 and 6 of the table, then the wall's, by pairs.
 use Rattle.row.proofs.Cut.{walked, says-unfit, says-pairs, says-unknown, says-wall}
-use borrow.Author.Tests.{not-true, not-false}
 use mathlib.Core.Bool.{not}
 use mathlib.Core.Path.{refl, ap, sym, ◌∙◌}
 use borrow.Author.Rules.{rules}

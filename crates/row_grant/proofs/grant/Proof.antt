@@ -2,7 +2,6 @@
 use Rattle.row_labels.proofs.Fitting.{fits-are}
 use Rattle.row_grant.proofs.Granted.{unfit-left}
 use Rattle.row_grant.proofs.Entered.{taken-entered}
-use borrow.Author.Tests.{not-true, not-false}
 use mathlib.Core.Path.{sym, ◌∙◌}
 use borrow.Author.Rules.{rules}
 use Rattle.row_grant.proofs.grant.Statement.{statement}

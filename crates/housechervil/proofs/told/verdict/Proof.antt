@@ -2,9 +2,6 @@
 use borrow.Author.Rules.{rules}
 use Rattle.housechervil.proofs.told.verdict.Statement.{statement}
 use Rattle.housechervil.proofs.told.verdict.Tie as tie
-use Rattle.housechervil.proofs.told.verdict.Reads as reads
-use Rattle.housechervil.proofs.told.verdict.Lts as lts
-use Rattle.housechervil.proofs.told.folders.Reads as folders-reads
 
 enum_told : tie.Need-enum_told-1
 enum_told c = search rules

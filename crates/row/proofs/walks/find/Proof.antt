@@ -1,6 +1,5 @@
 -- `find` meets its contract: where no folder is of the sort, the row's length stands for the first.
 use mathlib.Core.Path.{sym, ◌∙◌}
-use borrow.Author.Tests.{not-true}
 use Rattle.vocabulary.proofs.Those.{first_absent}
 use borrow.Author.Rules.{rules}
 use Rattle.row.proofs.walks.find.Statement.{statement}

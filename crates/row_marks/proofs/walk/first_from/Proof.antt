@@ -1,12 +1,12 @@
 -- `first_from` meets its contract: no folder that the walk has passed may be read with its client marked.
 use Prim.Native.Nat.{◌≤◌, ◌-◌}
-use mathlib.Core.Path.{◌≡◌, refl, sym}
+use mathlib.Core.Path.{◌≡◌, sym}
 use mathlib.Core.List.{[]}
 use lib.ListN.{length}
 use Rattle.vocabulary.specs.Those.{those}
 use Rattle.vocabulary.specs.Place.{row_at, Placed}
 use Rattle.vocabulary.proofs.Those.{those-none, first_found, first-end}
-use Rattle.vocabulary.proofs.Place.{placed, placed-next, placed-within, row_at-room}
+use Rattle.vocabulary.proofs.Place.{placed-next, placed-within}
 use Rattle.row_marks.specs.Marks.{read_marked}
 use borrow.Author.Tests.{eq-eqb, ne_eqb}
 use native.Mathlib.Omega.{arith}

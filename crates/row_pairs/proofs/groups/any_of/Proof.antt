@@ -1,13 +1,13 @@
 -- `any_of` meets its contract: the flag says whether a folder that the loop has passed is readable and of one of the four.
 use Prim.Native.Nat.{◌≤◌, ◌<◌, ◌-◌}
-use mathlib.Core.Path.{◌≡◌, refl, sym, ap, ◌∙◌}
+use mathlib.Core.Path.{◌≡◌, sym, ap, ◌∙◌}
 use native.Mathlib.Omega.{arith}
 use lib.ListN.{length}
 use borrow.Author.Rules.{rules}
 use Rattle.vocabulary.specs.Those.{those, some}
 use Rattle.vocabulary.specs.Place.{row_at, Placed}
 use Rattle.vocabulary.proofs.Those.{some-those-suc, those-end}
-use Rattle.vocabulary.proofs.Place.{placed, placed-next, placed-within, cell-placed, row_at-room}
+use Rattle.vocabulary.proofs.Place.{placed-next, placed-within, cell-placed}
 use Rattle.row_pairs.specs.Among.{one_of, readable_with}
 use Rattle.row_pairs.proofs.groups.any_of.Statement.{statement}
 use Rattle.row_pairs.proofs.groups.any_of.Tie as tie

@@ -1,14 +1,14 @@
 -- `first_of` meets its contract: no folder that the loop has passed is readable and of one of the four.
 use Prim.Native.Nat.{◌≤◌, ◌<◌, ◌-◌}
 use mathlib.Core.List.{[]}
-use mathlib.Core.Path.{◌≡◌, refl, sym}
+use mathlib.Core.Path.{◌≡◌, sym}
 use native.Mathlib.Omega.{arith}
 use lib.ListN.{length}
 use borrow.Author.Rules.{rules}
 use Rattle.vocabulary.specs.Those.{those}
 use Rattle.vocabulary.specs.Place.{row_at, Placed}
 use Rattle.vocabulary.proofs.Those.{first-end, those-none, first_found}
-use Rattle.vocabulary.proofs.Place.{placed, placed-next, placed-within, cell-placed, row_at-room}
+use Rattle.vocabulary.proofs.Place.{placed-next, placed-within, cell-placed}
 use Rattle.row_pairs.specs.Among.{one_of, readable_with}
 use Rattle.row_pairs.proofs.groups.first_of.Statement.{statement}
 use Rattle.row_pairs.proofs.groups.first_of.Tie as tie
