@@ -297,7 +297,7 @@ fn every_entry_is_judged() {
 /// Every number there is as an entry, of the asking login and of another.
 #[test]
 fn every_number_as_an_entry() {
-    for logins in [1, 2, 7, 8, 16, 17, 32, 33, 64, 65, 100, 127, 128] {
+    for logins in [1, 2, 7, 8, 15, 16, 17, 32, 33, 64, 65, 100, 127, 128] {
         let mut house = Owned::new(logins, &[(1, 1)]);
         for entry in 0..=u16::MAX {
             house.persons[logins - 1] = entry;
@@ -323,7 +323,7 @@ fn lengths() {
     ];
     let mut random = Random::new(107);
     let mut tally = Tally::default();
-    for logins in [1, 2, 3, 7, 8, 16, 17, 32, 33, 64, 65, 127, 128] {
+    for logins in [1, 2, 3, 7, 8, 15, 16, 17, 32, 33, 64, 65, 127, 128] {
         for len in lengths {
             for person in [0, logins - 1] {
                 let house = Owned::new(logins, &[(1, 1), (1, 2)]).of_persons(&vec![person as u16; len]);
