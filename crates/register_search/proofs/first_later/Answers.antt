@@ -1,0 +1,7 @@
+-- `first_later` meets its contract: one folder, many, or few.
+use Rattle.register_search.proofs.Later.{later-one}
+use Rattle.register_search.proofs.first_later.Goals as goal
+
+pub returns-then-classes-le1 : goal.returns-then-classes-le1
+returns-then-classes-le1 c =
+    later-one _ c.if-classes-le1.true

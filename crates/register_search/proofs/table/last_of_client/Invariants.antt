@@ -1,0 +1,11 @@
+-- `last_of_client` meets its contract: what the walk has passed is not of the client, and each step goes down the slot.
+use Rattle.register_search.proofs.Chains.{Walking, walk_start, walk-next, walk-found, walk_end, walk-falls}
+use mathlib.Core.Path.{◌≡◌, sym, ◌∙◌}
+use native.Mathlib.Omega.{arith}
+use Rattle.register_search.proofs.table.last_of_client.Given as goal
+
+abbrev pub invariant-loop-past : goal.invariant-loop-past
+invariant-loop-past l = Walking l.clients l.client.0 l.f l.past
+
+abbrev pub decreases-loop-past : goal.decreases-loop-past
+decreases-loop-past l = l.past
