@@ -3,32 +3,21 @@ use Rattle.row.proofs.Cut.{same-leb}
 use Rattle.row.specs.Cut.{ruled_past}
 use Rattle.vocabulary.specs.Answer.{judge}
 use borrow.Author.Tests.{lt-leb, le-leb, eq-eqb, ne_eqb}
-use borrow.Author.Rules.{rules}
-use Rattle.row.proofs.rule_read.Statement.{statement}
-use Rattle.row.proofs.rule_read.Tie as tie
+use Rattle.row.proofs.rule_read.Goals as goal
 
-find-requires : tie.Need-find-stake-requires
-find-requires c κs = search rules
-
-folder-no-requires : tie.Need-folder_no-requires
-folder-no-requires c κs = search rules
-
-returns : tie.Need-returns-then-stake-classes
+pub returns-then-stake-classes : goal.returns-then-stake-classes
 unfolding ruled_past judge
-returns c =
+returns-then-stake-classes c =
     let e = c.requires.0.0 in
     rw (c.folder_no.ensures, ← c.find-stake.ensures, same-leb _ _ e, c.requires.2, eq-eqb _ _ c.if-kind-eq2.true, lt-leb _ _ (rw e at c.if-stake-classes.true))
 
-returns-2 : tie.Need-returns-else-stake-classes
+pub returns-else-stake-classes : goal.returns-else-stake-classes
 unfolding ruled_past judge
-returns-2 c =
+returns-else-stake-classes c =
     let e = c.requires.0.0 in
     rw (← c.find-stake.ensures, same-leb _ _ e, c.requires.2, eq-eqb _ _ c.if-kind-eq2.true, le-leb _ _ (rw e at c.if-stake-classes.false))
 
-returns-3 : tie.Need-returns-else-kind-eq2
+pub returns-else-kind-eq2 : goal.returns-else-kind-eq2
 unfolding ruled_past judge
-returns-3 c =
+returns-else-kind-eq2 c =
     rw (same-leb _ _ c.requires.0.0, c.requires.2, ne_eqb _ _ c.if-kind-eq2.false)
-
-pub rule_read_spec : {M : Type 1} → statement M
-rule_read_spec = tie.close (tie.spec find-requires folder-no-requires returns returns-2 returns-3)
