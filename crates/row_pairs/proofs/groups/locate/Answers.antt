@@ -1,0 +1,16 @@
+-- `locate` meets its contract: no folder of the blocks that the loop has passed is readable and of one of the four.
+use Prim.Native.Nat.{◌≤◌, ◌-◌}
+use mathlib.Core.List.{[]}
+use mathlib.Core.Path.{◌≡◌, refl, sym, ◌∙◌}
+use native.Mathlib.Omega.{arith}
+use lib.ListN.{length}
+use Rattle.vocabulary.specs.Those.{those}
+use Rattle.vocabulary.specs.Place.{row_at, Placed}
+use Rattle.vocabulary.proofs.Place.{placed-start, placed_on, row_at-room}
+use Rattle.vocabulary.proofs.Those.{some-none}
+use Rattle.row_pairs.specs.Among.{one_of, readable_with}
+use Rattle.row_pairs.proofs.groups.locate.Goals as goal
+
+pub loop-f-init : goal.loop-f-init
+unfolding those
+loop-f-init c = (omega arith, (placed-start _ _, refl))
