@@ -27,7 +27,7 @@
  *
  * POINTERS
  *   A list or a buffer is a pointer and its length in elements. The library reads a const one, writes into the others only what is
- *   said below, keeps no pointer and allocates nothing; as built it needs less than 11 KiB of stack, and of the C library only memset.
+ *   said below, keeps no pointer and allocates nothing; as built it needs less than 16 KiB of stack, and of the C library only memset.
  *   It has no state: calls may run at the same time unless one of them writes a buffer that another uses.
  *   A length may be 0, and then nothing is read or written through the pointer. Pass a pointer that is not null and is aligned
  *   even then (any object of the element's type will do): compiled code may assume it. So too `firsts` and `seconds` in class mode,

@@ -99,7 +99,7 @@
 //!   are used only as indices that Rust checks.
 //! - **Layout.** The structs are `repr(C)`, [`ClassNo`], [`ClientNo`] and [`PersonNo`] are `repr(transparent)` around `u16`, and the
 //!   build stops if a struct's size is not that of the C interface on x86-64.
-//! - **Stack.** The library needs less than 11 KiB of it.
+//! - **Stack.** The library needs less than 16 KiB of it.
 //! - **Threads.** All types are plain data and borrows, so `Send` and `Sync` are the compiler's own conclusions.
 //!
 //! What this rests on: that the library linked in is the one that the repository's `make` builds.
