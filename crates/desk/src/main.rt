@@ -1,24 +1,22 @@
 // The desk (document 01, 'The desk program'): standard input to `desk_opening` and `desk_core` to standard output, nothing else.
 #![tactic(auto)]
 
-ghost use Rattle.std.specs.Prelude.{◌≡◌, ◌≤◌, length, IfOk};
+ghost use Rattle.std.specs.Prelude.{◌≤◌, length, IfOk};
 
 use desk_opening::Opening;
 use log_writer::Tail;
+use register::Labels;
 use std::io;
-use std::io::{ErrorKind, Read};
-use text_lines::Text;
+use std::io::Read;
 
 fn main(rt: HostRuntime) -> io::Result<()> {
     // one byte more than the desk takes, so that a longer input is seen to be one
     let mut input = [0u8; 65537];
     let n = read_full(&mut rt.stdin(), &mut input)?;
-    let opening = desk_opening::open(&input[0..n]);
-    show(&rt, &opening.text)?;
-    if opening.onward {
-        serve(&rt, &input[0..n], opening)?;
+    match desk_opening::open(&input[..n]) {
+        Ok(opening) => serve(&rt, &input[..n], &opening),
+        Err(ended) => rt.write_all(ended.as_bytes()),
     }
-    Ok(())
 }
 
 // Fills the buffer from the input, as far as there is some: how many bytes were read. A short read is gone on with.
@@ -36,45 +34,24 @@ fn read_full(input: &mut impl Read, bytes: &mut [u8]) -> io::Result<usize>
     Ok(n)
 }
 
-// Writes a printed text, which is never longer than its buffer.
-fn show(rt: &impl Print, text: &Text) -> io::Result<()>
-    requires { length text.now.bytes ≡ 4096 }
-{
-    let n = text.len;
-    if 4096 < n {
-        return Err(ErrorKind::InvalidData.into());
-    }
-    rt.write_all(&text.bytes[0..n])
-}
-
 // The requests, with each login its own person, a blank matrix of P times F cells and an empty log.
-fn serve(rt: &impl Print, input: &[u8], opening: Opening) -> io::Result<()>
-    requires { (length opening.classes ≡ 512) × (length opening.clients ≡ 512) }
-{
-    let folders = opening.folders;
-    let logins = opening.logins;
-    let classes = opening.classes;
-    let clients = opening.clients;
+fn serve(rt: &impl Print, input: &[u8], opening: &Opening) -> io::Result<()> {
+    let logins = opening.logins();
+    let labels = Labels {
+        classes: opening.classes(),
+        clients: opening.clients(),
+    };
     let persons = person_list::own_numbers();
     let mut matrix = [0u8; 65536];
     let mut log = [0u8; 65536];
-    // an accepted register has no more
-    if 512 < folders {
-        return Ok(());
-    }
-    if 128 < logins {
-        return Ok(());
-    }
-    let cells = logins * folders;
     run(
         rt,
         input,
-        opening.place,
+        opening.place(),
         logins,
-        &classes[0..folders],
-        &clients[0..folders],
-        &persons[0..logins],
-        &mut matrix[0..cells],
+        labels,
+        &persons[..logins],
+        &mut matrix[..logins * labels.classes.len()],
         &mut log,
     )
 }
@@ -86,8 +63,7 @@ fn run(
     input: &[u8],
     place: usize,
     logins: usize,
-    classes: &[u16],
-    clients: &[u16],
+    labels: Labels,
     persons: &[u16],
     matrix: &mut [u8],
     log: &mut [u8],
@@ -95,10 +71,8 @@ fn run(
     let mut at = place;
     let mut tail = Tail { end: 0, serial: 0 };
     for _ in 0..=input.len() {
-        let progress = desk_core::step(
-            input, at, logins, classes, clients, persons, matrix, log, tail,
-        );
-        show(rt, &progress.text)?;
+        let progress = desk_core::step(input, at, logins, labels, persons, matrix, log, tail);
+        rt.write_all(progress.text.as_bytes())?;
         if !progress.onward {
             return Ok(());
         }

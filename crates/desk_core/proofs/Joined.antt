@@ -6,14 +6,13 @@ use mathlib.Core.Bool.{Bool, true, false, cond, ◌||◌}
 use mathlib.Core.Logic.{◌⊎◌, inl, inr}
 use mathlib.Core.List.{List, [], ◌++◌, append_assoc, append-nil}
 use lib.Dec.{eqb, leb, ltb}
-use lib.ListN.{length, replicate, take, length-replicate}
-use lib.Seq.{sets}
+use lib.ListN.{length, replicate}
 use borrow.Author.Tests.{eqb-true, ltb-false}
 use Rattle.vocabulary.proofs.Bools.{true-or-false}
 use Rattle.serial.specs.Serial.{following}
 use Rattle.person_list.specs.PersonList.{own_numbers}
 use Rattle.person_list.proofs.PersonList.{own-take}
-use Rattle.register.specs.Register.{Register, register_of, folders, register_answer}
+use Rattle.register.specs.Register.{Register, register_of, register_answer}
 use Rattle.policy.specs.Outcome.{Request, Log, Outcome, outcome, is_logged}
 use Rattle.policy.specs.Session.{new_log, session, answer_line}
 use Rattle.policy.specs.Session as session
@@ -22,30 +21,18 @@ use Rattle.policy.proofs.Accepted.{in-range}
 use Rattle.log_exact.proofs.Appended.{logged-left}
 use Rattle.log_exact.proofs.WriterPasses.{unlogged-left}
 use Rattle.desk_lines.specs.Lines.{Line, logins_line, folder_line, request_line, ill_line, line_at}
-use Rattle.line_numbers.specs.LineNumber.{line_number}
-use Rattle.text_lines.specs.Text.{text_of, shown}
-use Rattle.desk_print.specs.Lines.{input_too_long, bad_line, bad_register}
-use Rattle.text_lines.proofs.Printed.{taken, shown-text}
 use Rattle.desk_opening.specs.Folders.{Filed, filed_at, register_filed, is_request}
 use Rattle.desk_core.specs.Output.{asked_by, asked_at, line_text, lines_text, ending, served, checked_then, filed_then, first_then, output}
-use Rattle.desk_opening.specs.Opened.{Opened, opened, opened_on, opened_with, closed_with, first_on, opening_of}
+use Rattle.desk_opening.specs.Opened.{Opened, opened, opened_on, opened_with, first_on, opening_of}
 use Rattle.desk_core.specs.Step.{Stepped, stepped}
-use Rattle.desk_core.specs.Joined.{steps_by, run, Joined}
+use Rattle.desk_core.specs.Joined.{steps_by, run_on, run, Joined}
 use Rattle.desk_lines.proofs.Onward.{Ahead, line-ahead}
 use Rattle.desk_opening.proofs.Fits.{opening-fits}
 use Rattle.desk_core.proofs.Fits.{step_fits}
 
 -- A run from an opening on.
 abbrev run_of : List ℕ → Opened → List ℕ
-run_of text x =
-    let y = opening_of x in
-    shown y.text
-    ++ cond y.onward
-    (steps_by (suc (length text)) text (register_of y.logins (take y.folders y.classes) (take y.folders y.clients)) (take y.logins (own_numbers 128)) y.place (replicate (y.logins * y.folders) 0) new_log)
-    []
-
-closed-whole : (text line : List ℕ) → length line ≤ 4096 → run_of text (closed_with line) ≡ line
-closed-whole text line h = append-nil (shown (text_of line)) ∙ shown-text line h
+run_of text x = run_on text (opening_of x)
 
 -- What steps print, without the buffers.
 unfoldable plain_by : (fuel : ℕ) → List ℕ → Register → (ps : List ℕ) (place : ℕ) → (matrix : List ℕ) → Log → List ℕ
@@ -84,7 +71,7 @@ module _ (text : List ℕ)
   steps-plain zero r ps place matrix log h = refl
   steps-plain (suc k) r ps place matrix log h =
       let s = stepped text r ps place matrix log in
-      rw (shown-text s.text (fits r ps place matrix log h), steps-plain k r ps s.place s.matrix s.log (step-serial r ps place matrix log h))
+      rw (steps-plain k r ps s.place s.matrix s.log (step-serial r ps place matrix log h))
 
   -- The steps from a place on, with fuel that is enough, print the lines of the requests there and what ends the run.
   abbrev Served : Register → List ℕ → ℕ → Type 0
@@ -125,17 +112,11 @@ module _ (text : List ℕ)
 
   -- ---- the opening
 
-  -- The register is handed back as it was filed.
-  accepted-sizes : (r : Register) → eqb (register_answer r).number 0 ≡ true → (r.logins ≤ 128) × (folders r ≤ 512) × (length r.clients ≡ folders r)
+  -- A register that is accepted has no more logins than 128.
+  accepted-sizes : (r : Register) → eqb (register_answer r).number 0 ≡ true → r.logins ≤ 128
   accepted-sizes r e =
       let g = in_range-ranged r (in-range r (eqb-true (register_answer r).number 0 e)) in
-      (g.logins-few, g.folders-few, sym g.folders-alike)
-
-  register-again : (p : ℕ) (cs ds : List ℕ) → (p ≤ 128) × (length cs ≤ 512) × (length ds ≡ length cs)
-      → register_of p (take (length cs) (sets (replicate 512 0) 0 cs)) (take (length cs) (sets (replicate 512 0) 0 ds)) ≡ register_of p cs ds
-  register-again p cs ds (logins, few, same) =
-      let whole = length-replicate {A = ℕ} 512 0 in
-      rw (taken (replicate 512 0) cs (rw whole few), ← same, taken (replicate 512 0) ds (rw (whole, same) few))
+      g.logins-few
 
   checked-whole : (b : Bool) (p : ℕ) (cs ds : List ℕ) (place : ℕ) → eqb (register_answer (register_of p cs ds)).number 0 ≡ b →
       length (opened_with (register_of p cs ds) place).text ≤ 4096 →
@@ -143,28 +124,28 @@ module _ (text : List ℕ)
   unfolding opened_with checked_then served asked_at
   checked-whole true p cs ds place e h =
       let sizes = accepted-sizes (register_of p cs ds) e in
-      rw (e, register-again p cs ds sizes, own-take p 128 sizes.0, shown-text [] (omega arith))
+      rw (e, own-take p 128 sizes)
       (steps-plain (suc (length text)) (register_of p cs ds) (own_numbers p) place (replicate (p * length cs) 0) new_log (omega arith)
       ∙ steps-served (register_of p cs ds) (own_numbers p) (length text) place (replicate (p * length cs) 0) new_log (omega arith))
-  checked-whole false p cs ds place e h = rw e (closed-whole text (bad_register (register_answer (register_of p cs ds))) (rw e at h))
+  checked-whole false p cs ds place e h = rw e refl
 
   filed-whole : (b : Bool) (p : ℕ) (f : Filed) → (is_request (line_at text f.place) || leb (length text) f.place) ≡ b
       → length (opened_on p text f).text ≤ 4096 → run_of text (opened_on p text f) ≡ filed_then p text f
   unfolding opened_on filed_then
   filed-whole true p f e h =
       rw e (checked-whole (eqb (register_answer (register_filed p f)).number 0) p f.classes f.clients f.place refl (rw e at h))
-  filed-whole false p f e h = rw e (closed-whole text (bad_line (line_number text f.place)) (rw e at h))
+  filed-whole false p f e h = rw e refl
 
   first-whole : (line : Line) → length (first_on line text).text ≤ 4096 → run_of text (first_on line text) ≡ first_then line text
   first-whole (logins_line p next) h =
       let f = filed_at text next in filed-whole (is_request (line_at text f.place) || leb (length text) f.place) p f refl h
-  first-whole (folder_line class client next) h = closed-whole text (bad_line 1) h
-  first-whole (request_line kind login o next) h = closed-whole text (bad_line 1) h
-  first-whole ill_line h = closed-whole text (bad_line 1) h
+  first-whole (folder_line class client next) h = refl
+  first-whole (request_line kind login o next) h = refl
+  first-whole ill_line h = refl
 
 output-whole : (text : List ℕ) (b : Bool) → ltb 65536 (length text) ≡ b → length (opened text).text ≤ 4096 → run text ≡ output text
 unfolding run opened output
-output-whole text true e h = rw e (closed-whole text input_too_long (rw e at h))
+output-whole text true e h = rw e refl
 output-whole text false e h =
     let short : length text < 2 ^ 64 = omega (arith, ltb-false 65536 (length text) e) in
     rw e (first-whole text (λ r ps place matrix log. step_fits text r ps place matrix log short) (line_at text 0) (rw e at h))

@@ -1,7 +1,7 @@
 -- What a step leaves: after a request the monitor's reply and its line, otherwise the end of the run.
 use Prim.Native.Nat.{ℕ, ◌≤◌}
 use mathlib.Core.Path.{◌≡◌, refl, sym, ap}
-use mathlib.Core.Bool.{true, false, false≢true}
+use mathlib.Core.Bool.{true, false}
 use mathlib.Core.List.{List}
 use mathlib.Core.Logic.{◌⊎◌, inl, inr}
 use lib.Dec.{eqb}
@@ -15,14 +15,16 @@ use Rattle.policy.specs.Session as session
 use Rattle.log_writer.specs.declared.Reply.{Reply}
 use Rattle.response.specs.Response.{response_answer}
 use Rattle.log_writer.specs.Reply.{replied}
-use Rattle.text_lines.specs.declared.Text.{Text}
+use Rattle.text_lines.specs.declared.text.Text.{Text}
 use Rattle.text_lines.specs.Text.{text_of}
 use Rattle.desk_answers.specs.Recorded.{answer_text}
 use Rattle.desk_answers.proofs.Answered.{logged-text}
 use Rattle.desk_lines.specs.Lines.{Line, logins_line, folder_line, request_line, ill_line, line_at}
-use Rattle.desk_opening.specs.Folders.{is_request}
+use Rattle.std.proofs.Common.{Some, None}
+use Rattle.std.proofs.lemmas.Option.{none-some, cond_some}
+use Rattle.ids.specs.declared.Request as ids
 use Rattle.desk_core.specs.Output.{line_text}
-use Rattle.desk_core.specs.Step.{over, stepped_on, stepped, left, left_by, tail_of}
+use Rattle.desk_core.specs.Step.{request_of, over, stepped_on, stepped, left, left_by, tail_of}
 
 -- ---- the line of an answer
 
@@ -46,14 +48,20 @@ answer-text r ps m q log serial a e = rw (e, told-number (outcome r ps m q log).
 
 -- ---- a step
 
+pub a-request : (line : Line) (asked : ids.Request) (next : ℕ) → request_of line ≡ Some (asked, next) → line ≡ request_line asked.kind asked.login.0 asked.folder.0 next
+a-request (request_line kind login o after) asked next e = ap (λ (x : ids.Request × ℕ). request_line x.0.kind x.0.login.0 x.0.folder.0 x.1) (cond_some true _ (asked, next) e).1
+a-request (logins_line n after) asked next e = absurd (none-some _ e)
+a-request (folder_line class client after) asked next e = absurd (none-some _ e)
+a-request ill_line asked next e = absurd (none-some _ e)
+
 module _ (text : List ℕ) (r : Register) (ps : List ℕ) (place : ℕ) (matrix : List ℕ) (log : Log) where
-  over-on : (line : Line) → is_request line ≡ false → stepped_on line text r ps place matrix log ≡ over text place matrix log
+  over-on : (line : Line) → request_of line ≡ None → stepped_on line text r ps place matrix log ≡ over text place matrix log
   over-on (logins_line n next) e = refl
   over-on (folder_line class client next) e = refl
-  over-on (request_line kind login o next) e = absurd (false≢true (sym e))
+  over-on (request_line kind login o next) e = absurd (none-some _ (sym e))
   over-on ill_line e = refl
 
-  pub stepped-over : is_request (line_at text place) ≡ false → stepped text r ps place matrix log ≡ over text place matrix log
+  pub stepped-over : request_of (line_at text place) ≡ None → stepped text r ps place matrix log ≡ over text place matrix log
   unfolding stepped
   stepped-over e = over-on (line_at text place) e
 

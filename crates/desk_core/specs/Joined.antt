@@ -1,12 +1,13 @@
 -- The opening and the steps print the whole output, and none of them prints more than its buffer holds.
-use Rattle.std.specs.Prelude.{ℕ, zero, suc, ◌*◌, ◌≤◌, ◌<◌, ◌^◌, ◌≡◌, cond, List, [], ◌++◌, length, replicate, take}
+use Rattle.std.specs.Prelude.{ℕ, zero, suc, ◌*◌, ◌≤◌, ◌<◌, ◌^◌, ◌≡◌, cond, List, [], ◌++◌, length, replicate, take, Result, Ok, Err}
 use Rattle.person_list.specs.PersonList.{own_numbers}
-use Rattle.register.specs.Register.{Register, register_of}
+use Rattle.register.specs.Register.{Register, folders}
 use Rattle.policy.specs.Outcome.{Log}
 use Rattle.policy.specs.Session.{new_log}
 use Rattle.log_writer.specs.Reply.{log_of}
+use Rattle.text_lines.specs.declared.text.Text.{Text}
 use Rattle.text_lines.specs.Text.{shown}
-use Rattle.desk_opening.specs.declared.Opening.{Opening}
+use Rattle.desk_opening.specs.declared.opening.Opening.{Opening}
 use Rattle.desk_opening.specs.Opened.{opened, opening_of}
 use Rattle.desk_core.specs.Output.{output}
 use Rattle.desk_core.specs.Step.{stepped, Left, left_by}
@@ -20,11 +21,14 @@ steps_by (suc fuel) text r persons place matrix log =
 
 -- A run: the opening, and then the steps with each login its own person, from a blank matrix and a new log. One step more than the text has bytes is
 -- enough: every request line has bytes, and one step finds the end.
+abbrev pub run_on : List ℕ → Result Opening Text → List ℕ
+run_on text (Ok x) =
+    let r : Register = x.register in
+    steps_by (suc (length text)) text r (take r.logins (own_numbers 128)) x.place (replicate (r.logins * folders r) 0) new_log
+run_on text (Err ended) = shown ended
+
 unfoldable pub run : List ℕ → List ℕ
-run text =
-    let x : Opening = opening_of (opened text) in
-    let r : Register = register_of x.logins (take x.folders x.classes) (take x.folders x.clients) in
-    shown x.text ++ cond x.onward (steps_by (suc (length text)) text r (take x.logins (own_numbers 128)) x.place (replicate (x.logins * x.folders) 0) new_log) []
+run text = run_on text (opening_of (opened text))
 
 pub record Joined : Type 0 where
   -- A run prints the whole output: nothing is cut off, and nothing is printed twice.

@@ -1,6 +1,7 @@
 -- What a request line prints, and what ends the run. `Joined.antt` says that with the opening the steps make the whole output, so no rule of
 -- document 01 stands here.
-use Rattle.std.specs.Prelude.{ℕ, Bool, true, false, List}
+use Rattle.std.specs.Prelude.{ℕ, Bool, true, false, List, Option, Some, None}
+use Rattle.ids.specs.declared.Request as ids
 use Rattle.register.specs.Register.{Register}
 use Rattle.policy.specs.Outcome.{Log, Outcome, outcome}
 use Rattle.policy.specs.Session.{answer_line}
@@ -47,6 +48,13 @@ stepped_on ill_line text r persons place matrix log = over text place matrix log
 
 unfoldable pub stepped : List ℕ → Register → (persons : List ℕ) (place : ℕ) → (matrix : List ℕ) → Log → Stepped
 stepped text r persons place matrix log = stepped_on (line_at text place) text r persons place matrix log
+
+-- The request that a line asks for, and the place after it.
+abbrev pub request_of : Line → Option (ids.Request × ℕ)
+request_of (request_line kind login o next) = Some (record { login = record { 0 = login }; folder = record { 0 = o }; kind = kind }, next)
+request_of (logins_line n next) = None
+request_of (folder_line class client next) = None
+request_of ill_line = None
 
 -- The same as it is handed back, with the lent matrix and log.
 pub record Left : Type 0 where

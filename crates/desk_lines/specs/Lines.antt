@@ -1,9 +1,9 @@
 -- The lines that the desk reads (document 01, 'The desk program').
-use Rattle.std.specs.Prelude.{ℕ, suc, cond, List, eqb, ltb}
+use Rattle.std.specs.Prelude.{ℕ, suc, cond, List, eqb, ltb, Option, Some, None}
 use Rattle.vocabulary.specs.Parsed.{Parsed, got, refused, ◌>>=◌}
 use Rattle.numerals.specs.Numbers.{byte_at, ill_formed, number_at}
 use Rattle.desk_lines.specs.declared.Line as declared
-use Rattle.desk_lines.specs.declared.Line.TheVariants.{Logins, Folder, Request, Ill}
+use Rattle.desk_lines.specs.declared.Line.TheVariants.{Logins, Folder, Request}
 
 -- ---- the parts of a line
 
@@ -66,9 +66,21 @@ line_at text place =
     (cond (ltb 0 (kind_of letter)) (pair_at text (suc place) (request_line (kind_of letter)))
     ill_formed)))
 
+-- ---- as they are handed back
+
+-- The place after a byte that was read.
+abbrev pub byte_of : ℕ → Option ℕ → Parsed (ℕ × ℕ)
+byte_of b (Some next) = got (b, next)
+byte_of b None = ill_formed
+
+-- The line that two numbers make, with the place after it, or an ill-formed line.
+abbrev pub pair_line : (ℕ → ℕ → ℕ → Line) → Option (ℕ × ℕ × ℕ) → Line
+pair_line make (Some (first, last, next)) = make first last next
+pair_line make None = ill_line
+
 -- A line as `read_line` hands it back.
-abbrev pub line_of : declared.Line → Line
-line_of (Logins n next) = logins_line n next
-line_of (Folder class client next) = folder_line class.0 client.0 next
-line_of (Request asked next) = request_line asked.kind asked.login.0 asked.folder.0 next
-line_of Ill = ill_line
+abbrev pub line_of : Option (declared.Line × ℕ) → Line
+line_of (Some (Logins n, next)) = logins_line n next
+line_of (Some (Folder label, next)) = folder_line label.class.0 label.client.0 next
+line_of (Some (Request asked, next)) = request_line asked.kind asked.login.0 asked.folder.0 next
+line_of None = ill_line

@@ -4,12 +4,13 @@ use native.Mathlib.Numerals.{add-one}
 use native.Mathlib.Omega.{arith}
 use mathlib.Core.Path.{◌≡◌, refl, ap}
 use mathlib.Core.List.{List, [], ◌∷◌}
-use lib.ListN.{length, set, length-set}
+use lib.ListN.{length, take, set, replicate, length-set, length-replicate}
 use lib.Seq.{sets}
 use Rattle.desk_lines.specs.Lines.{Line, logins_line, folder_line, request_line, ill_line, line_at}
-use Rattle.desk_opening.specs.declared.heading.Filing.{Filing}
-use Rattle.desk_opening.specs.Heading.{Stored, stored, stored_in}
 use Rattle.desk_opening.specs.Folders.{Filed, filed, filed_on, filed_by, filed_at}
+use Rattle.text_lines.proofs.Printed.{taken}
+use Rattle.desk_opening.specs.declared.heading.Filing.{Filing}
+use Rattle.desk_opening.specs.Heading.{Kept}
 use Rattle.desk_lines.proofs.Onward.{Ahead, line-ahead, line-past}
 
 -- Fuel that reaches the text's end is as good as more.
@@ -53,10 +54,6 @@ filed-even text place = by (length text) place
 
 -- ---- the folders stored in two lists
 
--- Where the lines of folders that are stored end.
-pub stored-end : (filing : Filing) (cs ds cs₀ ds₀ : List ℕ) (f : Filed) → stored filing cs ds ≡ stored_in cs₀ ds₀ f → filing.place ≡ f.place
-stored-end filing cs ds cs₀ ds₀ f e = ap (λ (s : Stored). s.filing.place) e
-
 module _ (text : List ℕ) (place : ℕ) (cs₀ ds₀ : List ℕ) where
   -- Some folders are stored and the line at a place is next: with the folders from there on, all are.
   pub record Partway (cs ds : List ℕ) (folders at : ℕ) : Type 0 where
@@ -97,7 +94,25 @@ module _ (text : List ℕ) (place : ℕ) (cs₀ ds₀ : List ℕ) where
       }
 
   pub partway-all : (cs ds : List ℕ) (folders at : ℕ) → Partway cs ds folders at → filed_at text at ≡ filed [] [] at
-      → stored (record { folders = folders; place = at }) cs ds ≡ stored_in cs₀ ds₀ (filed_at text place)
-  partway-all cs ds folders at s e =
-      let count : folders ≡ length (filed_at text place).classes = omega (arith, rw e at s.count) in
-      rw (count, rw e at s.classes, rw e at s.clients, rw e at s.end)
+      → (folders ≡ length (filed_at text place).classes) × (cs ≡ sets cs₀ 0 (filed_at text place).classes)
+      × (ds ≡ sets ds₀ 0 (filed_at text place).clients) × (at ≡ (filed_at text place).place)
+  partway-all cs ds folders at s e = (omega (arith, rw e at s.count), rw e at s.classes, rw e at s.clients, rw e at s.end)
+
+-- ---- the folders that are filed
+
+module _ (f : Filed) (filing : Filing) (k : Kept f filing) where
+  pub kept-folders : filing.folders ≡ length f.classes
+  kept-folders = ap (λ (x : Filing). x.folders) k.kept
+
+  pub kept-place : filing.place ≡ f.place
+  kept-place = ap (λ (x : Filing). x.place) k.kept
+
+  -- The labels of no more than 512 folders are found again in their lists.
+  module _ (few : filing.folders ≤ 512) where
+    pub kept-classes : take filing.folders filing.classes ≡ f.classes
+    kept-classes = rw (kept-folders, ap (λ (x : Filing). x.classes) k.kept) (taken (replicate 512 0) f.classes (rw (length-replicate {A = ℕ} 512 0) (omega (arith, kept-folders))))
+
+    pub kept-clients : take filing.folders filing.clients ≡ f.clients
+    kept-clients =
+        rw (kept-folders, ← k.even, ap (λ (x : Filing). x.clients) k.kept)
+        (taken (replicate 512 0) f.clients (rw (length-replicate {A = ℕ} 512 0) (omega (arith, kept-folders, k.even))))

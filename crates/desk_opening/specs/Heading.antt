@@ -1,51 +1,30 @@
--- Internal: the folders' lines as the code files them, and an opening that ends the run. No rule of document 01 stands here.
-use Rattle.std.specs.Prelude.{ℕ, ◌≡◌, false, List, length, replicate}
+-- Internal: the folders' lines as the code files them. No rule of document 01 stands here.
+use Rattle.std.specs.Prelude.{ℕ, ◌≡◌, Option, Some, None, length, replicate}
 use Rattle.std.proofs.lemmas.List.Edits.{sets}
-use Rattle.text_lines.specs.declared.Text.{Text}
-use Rattle.desk_opening.specs.declared.Opening.{Opening}
+use Rattle.ids.specs.declared.Label.{Label}
+use Rattle.ids.specs.Label.{label_of}
+use Rattle.desk_lines.specs.Lines.{Line, logins_line, folder_line, request_line, ill_line}
 use Rattle.desk_opening.specs.declared.heading.Filing.{Filing}
 use Rattle.desk_opening.specs.Folders.{Filed}
 
--- Two lists of labels, with the number of the folders whose labels they are and the place after their lines.
-pub record Stored : Type 0 where
-  pub filing : Filing
-  pub classes : List ℕ
-  pub clients : List ℕ
+-- The folder that a line gives, and the place after it.
+abbrev pub folder_of : Line → Option (Label × ℕ)
+folder_of (folder_line class client next) = Some (label_of class client, next)
+folder_of (logins_line n next) = None
+folder_of (request_line kind login o next) = None
+folder_of ill_line = None
 
-abbrev pub stored : Filing → List ℕ → List ℕ → Stored
-stored filing classes clients =
+-- Folders that are filed: their labels from the start of two lists on, as far as the lists reach.
+abbrev pub filing_of : Filed → Filing
+filing_of f =
     record {
-      filing = filing;
-      classes = classes;
-      clients = clients;
+      folders = length f.classes;
+      classes = sets (replicate 512 0) 0 f.classes;
+      clients = sets (replicate 512 0) 0 f.clients;
+      place = f.place;
     }
 
--- Folders stored in two lists: their labels from the start on, as far as the lists reach.
-abbrev pub stored_in : List ℕ → List ℕ → Filed → Stored
-stored_in classes clients f =
-    record {
-      filing = record {
-        folders = length f.classes;
-        place = f.place;
-      };
-      classes = sets classes 0 f.classes;
-      clients = sets clients 0 f.clients;
-    }
-
--- What is stored are these folders, each of which has a class and a client, in two blank lists.
-pub record Kept (f : Filed) (s : Stored) : Type 0 where
+-- What is filed are these folders, each of which has a class and a client.
+pub record Kept (f : Filed) (filing : Filing) : Type 0 where
   pub even : length f.clients ≡ length f.classes
-  pub kept : s ≡ stored_in (replicate 512 0) (replicate 512 0) f
-
--- A run that is over, with the text that is printed.
-abbrev pub closing : Text → Opening
-closing text =
-    record {
-      text = text;
-      onward = false;
-      logins = 0;
-      folders = 0;
-      classes = replicate 512 0;
-      clients = replicate 512 0;
-      place = 0;
-    }
+  pub kept : filing ≡ filing_of f

@@ -3,5 +3,8 @@
 pub mod Folders
 -- Claims: the words for what is printed before the first request; `Joined.antt` of `desk_core` is the claim over them.
 pub mod Opened
--- Internal: the folders as the code files them, and an opening that ends the run.
+-- Claims: what the run goes on with.
+pub mod Ready
+-- Internal: the folders as the code files them, and how what the run goes on with is stored.
 pub mod Heading
+pub mod Inside

@@ -1,13 +1,13 @@
 -- What is printed before the first request, and what the run goes on with. `Joined.antt` of `desk_core` says that with the steps it makes the
 -- whole output, so no rule of document 01 stands here.
-use Rattle.std.specs.Prelude.{ℕ, Bool, true, false, cond, ◌||◌, List, [], eqb, leb, ltb, length, replicate}
-use Rattle.std.proofs.lemmas.List.Edits.{sets}
+use Rattle.std.specs.Prelude.{ℕ, Bool, true, false, cond, ◌||◌, List, [], eqb, leb, ltb, length, Result, Ok, Err}
 use Rattle.register.specs.Register.{Register, register_of, register_answer}
 use Rattle.desk_lines.specs.Lines.{Line, logins_line, folder_line, request_line, ill_line, line_at}
 use Rattle.line_numbers.specs.LineNumber.{line_number}
 use Rattle.text_lines.specs.Text.{text_of}
 use Rattle.desk_print.specs.Lines.{input_too_long, bad_line, bad_register}
-use Rattle.desk_opening.specs.declared.Opening.{Opening}
+use Rattle.text_lines.specs.declared.text.Text.{Text}
+use Rattle.desk_opening.specs.declared.opening.Opening.{Opening}
 use Rattle.desk_opening.specs.Folders.{Filed, filed_at, register_filed, is_request}
 
 -- The input up to its first request, or up to its end: what is printed of it, and, if the run goes on, the register and the place after it.
@@ -54,15 +54,6 @@ first_on ill_line text = closed_with (bad_line 1)
 unfoldable pub opened : List ℕ → Opened
 opened text = cond (ltb 65536 (length text)) (closed_with input_too_long) (first_on (line_at text 0) text)
 
--- The same as it is handed back: the labels from the start of their lists, zeros after them.
-abbrev pub opening_of : Opened → Opening
-opening_of x =
-    record {
-      text = text_of x.text;
-      onward = x.onward;
-      logins = x.register.logins;
-      folders = length x.register.classes;
-      classes = sets (replicate 512 0) 0 x.register.classes;
-      clients = sets (replicate 512 0) 0 x.register.clients;
-      place = x.place;
-    }
+-- The same as it is handed back: the text where the run ends, and the register and the place where it goes on.
+abbrev pub opening_of : Opened → Result Opening Text
+opening_of x = cond x.onward (Ok (record { register = x.register; place = x.place })) (Err (text_of x.text))

@@ -6,7 +6,7 @@ ghost use Rattle.register_check.specs.Verdict.{verdict_answer};
 ghost use Rattle.text_lines.specs.Text.{text_of};
 ghost use Rattle.desk_print.specs.Lines.{bad_line, bad_register, dash_text, input_too_long};
 
-use register_check::Verdict;
+use register_check::RegisterFault;
 use text_lines::{Text, line};
 
 // `input 41`
@@ -24,15 +24,15 @@ pub fn bad_line(n: usize) -> Text
 }
 
 // `register`, the number and the folders carried.
-pub fn bad_register(verdict: Verdict) -> Text
+pub fn bad_register(verdict: Result<(), RegisterFault>) -> Text
     ensures { result ≡ text_of (bad_register (verdict_answer verdict)) }
 {
     match verdict {
-        Verdict::Accepted => line(b"register ", 0, &[]),
-        Verdict::OutOfRange => line(b"register ", 1, &[]),
-        Verdict::LoneZero(f) => line(b"register ", 2, &[f.0]),
-        Verdict::TwoClasses(f, g) => line(b"register ", 3, &[f.0, g.0]),
-        Verdict::BadPairs => line(b"register ", 11, &[]),
+        Ok(()) => line(b"register ", 0, &[]),
+        Err(RegisterFault::OutOfRange) => line(b"register ", 1, &[]),
+        Err(RegisterFault::LoneZero(f)) => line(b"register ", 2, &[f.0]),
+        Err(RegisterFault::TwoClasses(f, g)) => line(b"register ", 3, &[f.0, g.0]),
+        Err(RegisterFault::BadPairs) => line(b"register ", 11, &[]),
     }
 }
 
@@ -40,5 +40,5 @@ pub fn bad_register(verdict: Verdict) -> Text
 pub fn dash_line(number: u16) -> Text
     ensures { result ≡ text_of (dash_text number) }
 {
-    line(b"- ", number as usize, &[])
+    line(b"- ", usize::from(number), &[])
 }

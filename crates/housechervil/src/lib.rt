@@ -8,7 +8,7 @@ ghost use Rattle.names.specs.Name.{name_shown};
 ghost use Rattle.packing.specs.CopyOutcome.{packs};
 ghost use Rattle.policy.specs.Outcome.{outcome};
 ghost use Rattle.policy.specs.Session.{request};
-ghost use Rattle.register.specs.Lent.{lent_by};
+ghost use Rattle.register.specs.Lent.{lent_by, register_lent};
 ghost use Rattle.register.specs.Register.{register_answer};
 ghost use Rattle.serial.specs.Serial.{compared, following};
 ghost use Rattle.unpacking.specs.Unpacks.{unpacks};
@@ -18,6 +18,7 @@ ghost use Rattle.housechervil.specs.Records.{by_pairs, copied, lent_at, log_item
 use ids::{FolderNo, LoginNo, Request};
 use log_writer::Tail;
 use names::Stretch;
+use register::{Labels, Pairs, Register};
 
 mod told; // the answers of the crates as records
 
@@ -75,6 +76,25 @@ pub struct HcNumber {
     pub place: usize,
 }
 
+// The register that a caller lends list by list.
+fn lend<'a>(
+    logins: usize,
+    classes: &'a [u16],
+    clients: &'a [u16],
+    by_pairs: bool,
+    firsts: &'a [u16],
+    seconds: &'a [u16],
+) -> Register<'a>
+    ensures { register_lent result ≡ lent_by logins classes clients by_pairs firsts seconds }
+{
+    Register {
+        logins,
+        labels: Labels { classes, clients },
+        by_pairs,
+        pairs: Pairs { firsts, seconds },
+    }
+}
+
 // The register check. The mode is 0 for classes and anything else for pairs.
 #[unsafe(no_mangle)]
 pub extern "C" fn hc_register_check(
@@ -88,7 +108,8 @@ pub extern "C" fn hc_register_check(
     ensures { result ≡ register_record (register_answer (lent_by logins classes clients (by_pairs mode) firsts seconds)) }
 {
     let by_pairs = mode != 0;
-    told::verdict(register_check::check(logins, classes, clients, by_pairs, firsts, seconds))
+    let register = lend(logins, classes, clients, by_pairs, firsts, seconds);
+    HcRegisterAnswer::from(register_check::check(&register))
 }
 
 // A request, with the mode as above and the person of each login. Its login and folder get their own types here.
@@ -111,28 +132,14 @@ pub extern "C" fn hc_request(
 ) -> HcReply
     ensures { served_by result matrix.new log.new ≡ served (outcome (lent_by logins classes clients (by_pairs mode) firsts seconds) persons.now matrix.old (request kind login folder) (lent_at log end serial)) }
 {
+    let register = lend(logins, classes, clients, mode != 0, firsts, seconds);
     let asked = Request {
         login: LoginNo(login),
         folder: FolderNo(folder),
-        kind: kind,
+        kind,
     };
-    let tail = Tail {
-        end: end,
-        serial: serial,
-    };
-    told::reply(monitor::request(
-        logins,
-        classes,
-        clients,
-        mode != 0,
-        firsts,
-        seconds,
-        persons,
-        matrix,
-        asked,
-        log,
-        tail,
-    ))
+    let tail = Tail { end, serial };
+    HcReply::from(monitor::request(&register, persons, matrix, asked, log, tail))
 }
 
 // The serial after this one.
@@ -156,7 +163,7 @@ pub extern "C" fn hc_serial_compare(first: u16, second: u16) -> u8
 pub extern "C" fn hc_pack(cells: &[u8], packed: &mut [u8]) -> HcPlaced
     ensures { record { told = result; left = packed.new } ≡ copied (packs cells.now packed.old) }
 {
-    told::packing(packing::pack(cells, packed))
+    HcPlaced::from(packing::pack(cells, packed))
 }
 
 // Unpacks `packed` into `cells`.
@@ -164,7 +171,7 @@ pub extern "C" fn hc_pack(cells: &[u8], packed: &mut [u8]) -> HcPlaced
 pub extern "C" fn hc_unpack(packed: &[u8], cells: &mut [u8]) -> HcPlaced
     ensures { record { told = result; left = cells.new } ≡ copied (unpacks packed.now cells.old) }
 {
-    told::unpacking(unpacking::unpack(packed, cells))
+    HcPlaced::from(unpacking::unpack(packed, cells))
 }
 
 // A step of the log reader at a place.
@@ -172,9 +179,7 @@ pub extern "C" fn hc_unpack(packed: &[u8], cells: &mut [u8]) -> HcPlaced
 pub extern "C" fn hc_log_step(log: &[u8], place: usize) -> HcLogItem
     ensures { result ≡ log_item (step_at log.now place) }
 {
-    let advance = log_reader::step_from(log, place);
-    let item = advance.item;
-    told::item(item)
+    HcLogItem::from(log_reader::step_from(log, place).item)
 }
 
 // The whole-log check.
@@ -182,7 +187,7 @@ pub extern "C" fn hc_log_step(log: &[u8], place: usize) -> HcLogItem
 pub extern "C" fn hc_log_check(log: &[u8]) -> HcPlaced
     ensures { result ≡ placed_of (checked log.now) }
 {
-    told::checked(log_check::check(log))
+    HcPlaced::from(log_check::check(log))
 }
 
 // The number at a place: how a caller walks a record's list.
@@ -190,7 +195,7 @@ pub extern "C" fn hc_log_check(log: &[u8]) -> HcPlaced
 pub extern "C" fn hc_number_read(log: &[u8], place: usize) -> HcNumber
     ensures { result ≡ number_of (reading 2 3 log.now place) }
 {
-    told::decoded(varint_read::read(log, place))
+    HcNumber::from(varint_read::read(log, place))
 }
 
 // The name shown for a folder, as a stretch of the client's or of the house's text.

@@ -12,15 +12,15 @@ ghost use Rattle.varint_read.specs.Decoded.{decoded_answer};
 ghost use Rattle.housechervil.specs.Records.{entry_item, log_item, number_of, placed_item, placed_of, register_record, reply_of};
 
 use crate::{HcLogItem, HcNumber, HcPlaced, HcRegisterAnswer, HcReply};
-use audit_log::{Entry, Item};
-use log_check::Checked;
+use audit_log::{Entry, Step};
 use log_fields::Fault;
 use log_writer::Reply;
-use packing::Packing;
-use register_check::Verdict;
-use serial::Order;
-use unpacking::Unpacking;
-use varint_read::Decoded;
+use packing::PackError;
+use register::RegisterFault;
+use response::Numbers;
+use std::cmp::Ordering;
+use unpacking::UnpackError;
+use varint_read::NumberFault;
 
 // ---- the register
 
@@ -29,52 +29,55 @@ fn folders(number: u16, first: u16, second: u16) -> HcRegisterAnswer
     ensures { result ≡ record { number = number; first = first; second = second } }
 {
     HcRegisterAnswer {
-        number: number,
-        first: first,
-        second: second,
+        number,
+        first,
+        second,
     }
 }
 
-pub(crate) fn verdict(v: Verdict) -> HcRegisterAnswer
-    ensures { result ≡ register_record (verdict_answer v) }
-{
-    match v {
-        Verdict::Accepted => folders(0, 0, 0),
-        Verdict::OutOfRange => folders(1, 0, 0),
-        Verdict::LoneZero(f) => folders(2, f.0, 0),
-        Verdict::TwoClasses(f, g) => folders(3, f.0, g.0),
-        Verdict::BadPairs => folders(11, 0, 0),
+impl From<Result<(), RegisterFault>> for HcRegisterAnswer {
+    ghost from_gives = { λ v r. r ≡ register_record (verdict_answer v) };
+
+    fn from(v: Result<(), RegisterFault>) -> HcRegisterAnswer {
+        match v {
+            Ok(()) => folders(0, 0, 0),
+            Err(RegisterFault::OutOfRange) => folders(1, 0, 0),
+            Err(RegisterFault::LoneZero(f)) => folders(2, f.0, 0),
+            Err(RegisterFault::TwoClasses(f, g)) => folders(3, f.0, g.0),
+            Err(RegisterFault::BadPairs) => folders(11, 0, 0),
+        }
     }
 }
 
 // ---- the request
 
-pub(crate) fn reply(reply: Reply) -> HcReply
-    ensures { result ≡ reply_of (response_answer reply.response) reply.tail.end reply.tail.serial }
-{
-    let response = reply.response;
-    let tail = reply.tail;
-    let n = response::in_numbers(response);
-    HcReply {
-        number: n.number,
-        first: n.first,
-        second: n.second,
-        count: n.count,
-        end: tail.end,
-        serial: tail.serial,
+impl From<Reply> for HcReply {
+    ghost from_gives = { λ r h. h ≡ reply_of (response_answer r.response) r.tail.end r.tail.serial };
+
+    fn from(reply: Reply) -> HcReply {
+        let Reply { response, tail } = reply;
+        let n = Numbers::from(response);
+        HcReply {
+            number: n.number,
+            first: n.first,
+            second: n.second,
+            count: n.count,
+            end: tail.end,
+            serial: tail.serial,
+        }
     }
 }
 
 // ---- serials
 
-pub(crate) fn order(o: Order) -> u8
+pub(crate) fn order(o: Option<Ordering>) -> u8
     ensures { result ≡ number o }
 {
     match o {
-        Order::Same => 0,
-        Order::Earlier => 1,
-        Order::Undecided => 2,
-        Order::Later => 3,
+        Some(Ordering::Equal) => 0,
+        Some(Ordering::Less) => 1,
+        None => 2,
+        Some(Ordering::Greater) => 3,
     }
 }
 
@@ -84,68 +87,75 @@ pub(crate) fn order(o: Order) -> u8
 fn placed(number: u16, value: usize) -> HcPlaced
     ensures { result ≡ record { number = number; value = value } }
 {
-    HcPlaced {
-        number: number,
-        value: value,
+    HcPlaced { number, value }
+}
+
+impl From<Result<(), PackError>> for HcPlaced {
+    ghost from_gives = { λ p r. r ≡ placed_of (packing p) };
+
+    fn from(p: Result<(), PackError>) -> HcPlaced {
+        match p {
+            Ok(()) => placed(0, 0),
+            Err(PackError::CellAbove(place)) => placed(60, place),
+            Err(PackError::Unequal) => placed(61, 0),
+        }
     }
 }
 
-pub(crate) fn packing(p: Packing) -> HcPlaced
-    ensures { result ≡ placed_of (packing p) }
-{
-    match p {
-        Packing::Packed => placed(0, 0),
-        Packing::CellAbove(place) => placed(60, place),
-        Packing::Unequal => placed(61, 0),
-    }
-}
+impl From<Result<(), UnpackError>> for HcPlaced {
+    ghost from_gives = { λ u r. r ≡ placed_of (unpacking u) };
 
-pub(crate) fn unpacking(u: Unpacking) -> HcPlaced
-    ensures { result ≡ placed_of (unpacking u) }
-{
-    match u {
-        Unpacking::Unpacked => placed(0, 0),
-        Unpacking::UnusedSet => placed(62, 0),
-        Unpacking::Unequal => placed(61, 0),
+    fn from(u: Result<(), UnpackError>) -> HcPlaced {
+        match u {
+            Ok(()) => placed(0, 0),
+            Err(UnpackError::UnusedSet) => placed(62, 0),
+            Err(UnpackError::Unequal) => placed(61, 0),
+        }
     }
 }
 
 // A refusal of the reader and its place.
-fn fault(f: Fault) -> HcPlaced
-    ensures { result ≡ placed_of (fault_answer f) }
-{
-    match f {
-        Fault::PastEnd(place) => placed(50, place),
-        Fault::Cut(place) => placed(51, place),
-        Fault::BadForm(place) => placed(52, place),
-        Fault::OutOfRange(place) => placed(53, place),
-        Fault::BadList(place) => placed(54, place),
-        Fault::OutOfTurn(place) => placed(55, place),
+impl From<Fault> for HcPlaced {
+    ghost from_gives = { λ f r. r ≡ placed_of (fault_answer f) };
+
+    fn from(f: Fault) -> HcPlaced {
+        match f {
+            Fault::PastEnd(place) => placed(50, place),
+            Fault::Cut(place) => placed(51, place),
+            Fault::BadForm(place) => placed(52, place),
+            Fault::OutOfRange(place) => placed(53, place),
+            Fault::BadList(place) => placed(54, place),
+            Fault::OutOfTurn(place) => placed(55, place),
+        }
     }
 }
 
-pub(crate) fn checked(c: Checked) -> HcPlaced
-    ensures { result ≡ placed_of (checked_answer c) }
-{
-    match c {
-        Checked::Records(n) => placed(0, n),
-        Checked::Refused(f) => fault(f),
+impl From<Result<usize, Fault>> for HcPlaced {
+    ghost from_gives = { λ c r. r ≡ placed_of (checked_answer c) };
+
+    fn from(c: Result<usize, Fault>) -> HcPlaced {
+        match c {
+            Ok(n) => placed(0, n),
+            Err(f) => HcPlaced::from(f),
+        }
     }
 }
 
-fn entry(e: Entry) -> HcLogItem
-    ensures { result ≡ entry_item (entry_of e) }
-{
-    HcLogItem {
-        number: 0,
-        serial: e.serial,
-        login: e.login.0,
-        folder: e.folder.0,
-        kind: e.kind,
-        answer: e.answer,
-        count: e.count,
-        list: e.list,
-        place: e.next,
+impl From<Entry> for HcLogItem {
+    ghost from_gives = { λ e r. r ≡ entry_item (entry_of e) };
+
+    fn from(e: Entry) -> HcLogItem {
+        HcLogItem {
+            number: 0,
+            serial: e.serial,
+            login: e.login.0,
+            folder: e.folder.0,
+            kind: e.kind,
+            answer: e.answer,
+            count: e.count,
+            list: e.list,
+            place: e.next,
+        }
     }
 }
 
@@ -154,7 +164,7 @@ fn no_record(number: u16, place: usize) -> HcLogItem
     ensures { result ≡ placed_item number place }
 {
     HcLogItem {
-        number: number,
+        number,
         serial: 0,
         login: 0,
         folder: 0,
@@ -162,19 +172,21 @@ fn no_record(number: u16, place: usize) -> HcLogItem
         answer: 0,
         count: 0,
         list: 0,
-        place: place,
+        place,
     }
 }
 
-pub(crate) fn item(i: Item) -> HcLogItem
-    ensures { result ≡ log_item (item_of i) }
-{
-    match i {
-        Item::Record(e) => entry(e),
-        Item::End(place) => no_record(1, place),
-        Item::Refused(f) => {
-            let refusal = fault(f);
-            no_record(refusal.number, refusal.value)
+impl From<Result<Step, Fault>> for HcLogItem {
+    ghost from_gives = { λ i r. r ≡ log_item (item_of i) };
+
+    fn from(i: Result<Step, Fault>) -> HcLogItem {
+        match i {
+            Ok(Step::Record(e)) => HcLogItem::from(e),
+            Ok(Step::End(place)) => no_record(1, place),
+            Err(f) => {
+                let refusal = HcPlaced::from(f);
+                no_record(refusal.number, refusal.value)
+            }
         }
     }
 }
@@ -184,18 +196,20 @@ fn number_at(number: u16, value: u16, place: usize) -> HcNumber
     ensures { result ≡ record { number = number; value = value; place = place } }
 {
     HcNumber {
-        number: number,
-        value: value,
-        place: place,
+        number,
+        value,
+        place,
     }
 }
 
-pub(crate) fn decoded(d: Decoded) -> HcNumber
-    ensures { result ≡ number_of (decoded_answer d) }
-{
-    match d {
-        Decoded::Number { value, next } => number_at(0, value, next),
-        Decoded::Cut(place) => number_at(51, 0, place),
-        Decoded::Bad(place) => number_at(52, 0, place),
+impl From<Result<(u16, usize), NumberFault>> for HcNumber {
+    ghost from_gives = { λ d r. r ≡ number_of (decoded_answer d) };
+
+    fn from(d: Result<(u16, usize), NumberFault>) -> HcNumber {
+        match d {
+            Ok((value, next)) => number_at(0, value, next),
+            Err(NumberFault::Cut(place)) => number_at(51, 0, place),
+            Err(NumberFault::Bad(place)) => number_at(52, 0, place),
+        }
     }
 }

@@ -1,24 +1,20 @@
 // The number of a line of the desk's input, under which it is told (document 01, 'The desk program').
 #![tactic(auto)]
 
-ghost use Rattle.std.specs.Prelude.{◌≤◌, ◌≡◌, cond};
+ghost use Rattle.std.specs.Prelude.{◌≡◌, ◌==◌, count_by, take};
 ghost use Rattle.line_numbers.specs.LineNumber.{line_number};
 
-fn one_if(b: bool) -> usize
-    ensures { (result ≡ cond b 1 0) × (result ≤ 1) }
+// How many lines ended before a place.
+fn ended_before(text: &[u8], place: usize) -> usize
+    ensures { result ≡ count_by (λ b. b == 10) (take place text.now) }
 {
-    if b { 1 } else { 0 }
+    text.iter().take(place).filter(|b| **b == 10).count()
 }
 
-// The number of the line at a place. What the walk has counted are the lines that ended before it, and none ends past the text.
+// The number of the line at a place, counted from 1.
+#[tactic(auto, using(crate::proofs::Ended::ended_count))]
 pub fn line_number(text: &[u8], place: usize) -> usize
     ensures { result ≡ line_number text.now place }
 {
-    let mut n: usize = 1;
-    let mut i = 0;
-    while (i < place) & (i < text.len()) {
-        n += one_if(text[i] == 10);
-        i += 1;
-    }
-    n
+    ended_before(text, place) + 1
 }

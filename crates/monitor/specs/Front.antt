@@ -1,10 +1,12 @@
 -- Internal: the first rows of the table, as the code judges them before the row of the person of the login that asks. No rule of document 01 stands
 -- here.
-use Rattle.std.specs.Prelude.{ℕ, ◌*◌, not, ◌&&◌, List, [], ◌∷◌, ◌++◌, eqb, leb}
+use Rattle.std.specs.Prelude.{ℕ, Result, Ok, Err, ◌*◌, not, ◌&&◌, List, [], ◌∷◌, ◌++◌, eqb, leb}
 use Rattle.vocabulary.specs.Answer.{Answer, Check, answer, check, judge}
 use Rattle.person_list.specs.PersonList.{bad_persons}
 use Rattle.register.specs.Register.{Register, folders, register_checks}
 use Rattle.policy.specs.Outcome.{Request}
+use Rattle.response.specs.declared.Refusal.{Refusal}
+use Rattle.response.specs.Response.{refusal_answer}
 
 -- Rows 4 to 7 of the table, with 10 after 5, of P, F, the person list and the matrix's length.
 unfoldable pub front_checks : (p f : ℕ) (persons : List ℕ) (size : ℕ) → Request → List Check
@@ -19,6 +21,11 @@ front_checks p f persons size q =
 -- Where every row so far is passed: a grant, with nothing taken back yet.
 abbrev pub passed : Answer
 passed = answer 0 (0 ∷ [])
+
+-- What the code hands back of them.
+abbrev pub front_answer : Result (Unit {0}) Refusal → Answer
+front_answer (Ok done) = passed
+front_answer (Err refusal) = refusal_answer refusal
 
 -- What rows 4 to 7, with 10 after 5, say.
 unfoldable pub four_to_seven : (p f : ℕ) (persons : List ℕ) (size : ℕ) → Request → Answer

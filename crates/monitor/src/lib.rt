@@ -2,13 +2,13 @@
 #![tactic(auto)]
 
 ghost use Rattle.std.specs.Prelude.{◌*◌, ◌<◌, ◌^◌, ◌≡◌};
-ghost use Rattle.register.specs.Lent.{lent_by};
+ghost use Rattle.register.specs.Lent.{register_lent};
 ghost use Rattle.policy.specs.Outcome.{outcome, told};
 ghost use Rattle.log_writer.specs.Reply.{request_of, lent_log, replied};
 
 use ids::{PersonNo, Request};
 use log_writer::{Reply, Tail};
-use response::Response;
+use register::Register;
 
 mod front; // register, matrix and request judged
 
@@ -17,55 +17,27 @@ fn row_start(person: PersonNo, folders: usize) -> usize
     requires { person.0 * folders < 2 ^ 64 }
     ensures { result ≡ person.0 * folders }
 {
-    (person.0 as usize) * folders
+    usize::from(person.0) * folders
 }
 
 // A request, judged by every row of the table, by classes or by pairs, and carried out on the row of the login's person.
 pub fn request(
-    logins: usize,
-    classes: &[u16],
-    clients: &[u16],
-    by_pairs: bool,
-    firsts: &[u16],
-    seconds: &[u16],
+    register: &Register,
     persons: &[u16],
     matrix: &mut [u8],
     asked: Request,
     log: &mut [u8],
     tail: Tail,
 ) -> Reply
-    ensures { replied result matrix.new log.new ≡ told (outcome (lent_by logins classes clients by_pairs firsts seconds) persons.now matrix.old (request_of asked) (lent_log log tail)) }
+    ensures { replied result matrix.new log.new ≡ told (outcome (register_lent register.now) persons.now matrix.old (request_of asked) (lent_log log tail)) }
 {
-    let first = front::judge_front(
-        logins,
-        classes,
-        clients,
-        by_pairs,
-        firsts,
-        seconds,
-        persons,
-        matrix.len(),
-        asked,
-    );
-    match first {
-        Response::Granted(_) => {
-            let person = person_list::person_of(persons, asked.login);
-            row_request::serve(
-                matrix,
-                row_start(person, classes.len()),
-                classes,
-                clients,
-                by_pairs,
-                firsts,
-                seconds,
-                asked,
-                log,
-                tail,
-            )
-        }
-        _ => Reply {
-            response: first,
-            tail: tail,
-        },
+    if let Err(refusal) = front::judge_front(register, persons, matrix.len(), asked) {
+        return Reply {
+            response: Err(refusal),
+            tail,
+        };
     }
+    let person = person_list::person_of(persons, asked.login);
+    let start = row_start(person, register.labels.classes.len());
+    row_request::serve(matrix, start, register, asked, log, tail)
 }

@@ -1,7 +1,7 @@
 -- Laws of passing over a text, byte by byte, line by line and in blocks.
 use Prim.Native.Nat.{ℕ, zero, suc, ◌+◌, ◌-◌, ◌≤◌, ◌<◌}
 use native.Mathlib.Numerals.{add-one}
-use native.Mathlib.Nat.{zero-add, add-zero, suc-add, sub-zero, sub-add-eq, add_assoc, add-sub_cancel_left, min-eq_left, min-eq_right}
+use native.Mathlib.Nat.{zero-add, add-zero, suc-add, sub-zero, sub-add-eq, add_assoc, min-eq_left, min-eq_right}
 use native.Mathlib.Omega.{arith}
 use mathlib.Core.Path.{◌≡◌, refl, sym, ap, ◌∙◌}
 use mathlib.Core.Bool.{true, false}
@@ -10,6 +10,9 @@ use mathlib.Core.List.{List, [], ◌∷◌, ◌++◌}
 use lib.Dec.{eqb}
 use lib.ListN.{length, drop, take, get_or, length-drop, take-append-drop, drop_of_length-le}
 use lib.Seq.{drop-cons, drop-drop, length-take-le}
+use Rattle.std.specs.Array.{IsFirstChunk}
+use Rattle.std.proofs.lemmas.List.{take_rest}
+use mir.Val.{bool_byte}
 use Rattle.vocabulary.proofs.Bools.{true-or-false}
 use Rattle.line_numbers.specs.LineNumber.{ended}
 use Rattle.names.specs.Scan.{by_break, end_from, least, past, past_from, before_break}
@@ -23,6 +26,11 @@ by_break-true b ends other t = rw t
 pub by_break-false : (b ends other : ℕ) → eqb b 10 ≡ false → by_break b ends other ≡ other
 unfolding by_break
 by_break-false b ends other f = rw f
+
+-- A byte 10 counts one, any other none.
+pub byte-break : (b : ℕ) → bool_byte (eqb b 10) ≡ by_break b 1 0
+byte-break b =
+    ⊎_elim (λ t. ap bool_byte t ∙ sym (by_break-true b 1 0 t)) (λ f. ap bool_byte f ∙ sym (by_break-false b 1 0 f)) (true-or-false (eqb b 10))
 
 pub one-most : (b : ℕ) {r : ℕ} → r ≡ by_break b 1 0 → r ≤ 1
 one-most b e =
@@ -80,6 +88,10 @@ module _ (b : ℕ) (text : List ℕ) where
   unfolding before_break
   before_break-later f = rw f
 
+before_break-nil : before_break [] ≡ 0
+unfolding before_break
+before_break-nil = refl
+
 pub before_break-most : (text : List ℕ) → before_break text ≤ length text
 unfolding before_break
 before_break-most [] = omega arith
@@ -131,10 +143,6 @@ past-found (b ∷ text) n h =
     ∙ rw (before_break-later b text f) (omega (arith, past-found text n (omega (arith, h, before_break-later b text f)))))
     (true-or-false (eqb b 10))
 
-before_break-nil : before_break [] ≡ 0
-unfolding before_break
-before_break-nil = refl
-
 past-unfound : (text : List ℕ) (n : ℕ) → length text ≤ before_break text → past text (suc n) ≡ before_break text
 past-unfound [] n h = past-nil (suc n) ∙ sym before_break-nil
 past-unfound (b ∷ text) n h =
@@ -175,15 +183,22 @@ least-told text (suc n) h k = told-suc text n h k (least-told text n (omega (ari
 
 -- ---- at a place of a text
 
--- A block of k bytes, as the code cuts it; and the text from there on, which is the block and what follows it.
+-- A block of k bytes; and the text from there on, which is the block and what follows it.
 abbrev pub block : List ℕ → ℕ → ℕ → List ℕ
-block text at k = take (at + k - at) (drop at text)
+block text at k = take k (drop at text)
 
 block-rest : (text : List ℕ) (at k : ℕ) → block text at k ++ drop (at + k) text ≡ drop at text
-block-rest text at k = rw (add-sub_cancel_left, ← drop-drop) (take-append-drop k (drop at text))
+block-rest text at k = rw (← drop-drop) (take-append-drop k (drop at text))
 
 block-length : (text : List ℕ) (at k : ℕ) → at + k ≤ length text → length (block text at k) ≡ k
-block-length text at k h = rw add-sub_cancel_left (length-take-le k (drop at text) (omega (arith, length-drop at text, h)))
+block-length text at k h = length-take-le k (drop at text) (omega (arith, length-drop at text, h))
+
+-- The first k bytes of the text from a place on are a block of it.
+pub chunk-block : (text : List ℕ) (at k : ℕ) {chunk : List ℕ} → at ≤ length text → IsFirstChunk (take (length text - at) (drop at text)) chunk k
+    → (at + k ≤ length text) × (chunk ≡ block text at k)
+chunk-block text at k h first =
+    let rest = take_rest text at in
+    (omega (arith, h, rw (rest, length-drop) at first.enough), first.same ∙ ap (take k) rest)
 
 module _ (text : List ℕ) (at : ℕ) where
   -- Counted up to a place: a byte more, and all.

@@ -1,10 +1,10 @@
 -- The name that the board shows for a folder (document 02, C-11).
-use Rattle.std.specs.Prelude.{ℕ, cond, List, eqb}
+use Rattle.std.specs.Prelude.{ℕ, cond, List, Option, Some, None, eqb}
 use Rattle.vocabulary.specs.Those.{some}
 use Rattle.names.specs.Lines.{line_for, line_span}
 use Rattle.names.specs.declared.Span.{Span}
 use Rattle.names.specs.declared.Name.{Name}
-use Rattle.names.specs.declared.Name.TheVariants.{Client, House, Unnamed}
+use Rattle.names.specs.declared.Name.TheVariants.{Client, House}
 use Rattle.names.specs.declared.Stretch.{Stretch}
 
 -- 'The name shown is the client's line if it has one that isn't empty, otherwise the house's line.'
@@ -42,7 +42,7 @@ name_shown client house o =
     (cond (some (line_for house o)) (stretch_of 1 (line_span house o)) no_stretch)
 
 -- The number and the values of each answer.
-abbrev pub name_answer : Name → Stretch
-name_answer (Client span) = stretch_of 0 span
-name_answer (House span) = stretch_of 1 span
-name_answer Unnamed = no_stretch
+abbrev pub name_answer : Option Name → Stretch
+name_answer (Some (Client span)) = stretch_of 0 span
+name_answer (Some (House span)) = stretch_of 1 span
+name_answer None = no_stretch

@@ -12,18 +12,17 @@ use ids::FolderNo;
 mod scan; // a text passed over, in blocks
 
 // Where a line lies in a text: the place at which it begins, and how many bytes it has.
-#[derive(Clone, Copy)]
+#[derive(Clone, Copy, PartialEq, Eq)]
 pub struct Span {
     pub place: usize,
     pub length: usize,
 }
 
-// The answers: where the client's line lies, or the house's, each not empty; 81, neither has one.
-#[derive(Clone, Copy)]
+// Where the name of a folder lies: the client's line, or the house's, each not empty.
+#[derive(Clone, Copy, PartialEq, Eq)]
 pub enum Name {
     Client(Span),
     House(Span),
-    Unnamed,
 }
 
 // An answer in numbers: 0 or 81; the text, 0 for the client's and 1 for the house's; the place in it, and how many bytes.
@@ -48,23 +47,23 @@ pub fn line_span(text: &[u8], folder: FolderNo) -> Span
     }
 }
 
-// Where the name of a folder lies: the client's line if it is not empty, otherwise the house's.
-pub fn find(client: &[u8], house: &[u8], folder: FolderNo) -> Name
+// Where the name of a folder lies: the client's line if it is not empty, otherwise the house's if that is not; 81, neither has one.
+pub fn find(client: &[u8], house: &[u8], folder: FolderNo) -> Option<Name>
     ensures { name_answer result ≡ name_shown client.now house.now folder.0 }
 {
     let own = line_span(client, folder);
     if own.length != 0 {
-        return Name::Client(own);
+        return Some(Name::Client(own));
     }
     let line = line_span(house, folder);
     if line.length != 0 {
-        return Name::House(line);
+        return Some(Name::House(line));
     }
-    Name::Unnamed
+    None
 }
 
 // A line of a text, as a part of it.
-fn part<'a>(text: &'a [u8], span: Span) -> &'a [u8]
+fn part(text: &[u8], span: Span) -> &[u8]
     requires { span.place + span.length ≤ length text.now }
     ensures { part_of result ≡ cut (part_of text.entry) span.place span.length }
 {
@@ -78,9 +77,9 @@ pub fn folder_name<'a>(client: &'a [u8], house: &'a [u8], folder: FolderNo) -> &
     ensures { part_of result ≡ name_part (part_of client.entry) (part_of house.entry) folder.0 }
 {
     match find(client, house, folder) {
-        Name::Client(span) => part(client, span),
-        Name::House(span) => part(house, span),
-        Name::Unnamed => &client[0..0],
+        Some(Name::Client(span)) => part(client, span),
+        Some(Name::House(span)) => part(house, span),
+        None => &client[0..0],
     }
 }
 
@@ -90,20 +89,20 @@ fn of_text(text: u16, span: Span) -> Stretch
 {
     Stretch {
         number: 0,
-        text: text,
+        text,
         place: span.place,
         length: span.length,
     }
 }
 
 // An answer in numbers.
-pub fn in_numbers(name: Name) -> Stretch
+pub fn in_numbers(name: Option<Name>) -> Stretch
     ensures { result ≡ name_answer name }
 {
     match name {
-        Name::Client(span) => of_text(0, span),
-        Name::House(span) => of_text(1, span),
-        Name::Unnamed => Stretch {
+        Some(Name::Client(span)) => of_text(0, span),
+        Some(Name::House(span)) => of_text(1, span),
+        None => Stretch {
             number: 81,
             text: 0,
             place: 0,

@@ -1,96 +1,64 @@
 // A text passed over. Blocks of 64 bytes go without a branch inside, so that the compiled code judges many bytes by one instruction.
-ghost use Rattle.std.specs.Prelude.{◌≤◌, min, ◌≡◌, length};
+ghost use Rattle.std.specs.Prelude.{◌≤◌, ◌≡◌, length};
 ghost use Rattle.line_numbers.specs.LineNumber.{ended};
-ghost use Rattle.names.specs.Scan.{by_break, end_from, least, past, past_from};
-
-// ---- a byte
-
-// One number for a byte 10, which ends a line, and another for any other byte.
-fn by_break(b: u8, ends: u8, other: u8) -> u8
-    ensures { result ≡ by_break b ends other }
-{
-    if b == 10 {
-        return ends;
-    }
-    other
-}
-
-fn lesser(a: u8, b: u8) -> u8
-    ensures { result ≡ min a b }
-{
-    if a < b {
-        return a;
-    }
-    b
-}
+ghost use Rattle.names.specs.Scan.{before_break, end_from, least, past, past_from};
 
 // ---- a block
 
 // How many bytes 10 a block has.
-// Invariant: it has `n` of them before i.
-fn breaks_in(block: &[u8]) -> u8
-    requires { length block.now ≡ 64 }
+// Invariant: it has `n` of them before the byte that comes next.
+fn breaks_in(block: &[u8; 64]) -> u8
     ensures { result ≡ ended block.now }
 {
     let mut n: u8 = 0;
-    let mut i = 0;
-    while i < 64 {
-        let b = block[i];
-        n = n + by_break(b, 1, 0);
-        i += 1;
+    for b in block {
+        n += u8::from(*b == 10);
     }
     n
 }
 
 // The place of the first byte 10 of a block, or 255.
 // Invariant: `first` is that of the bytes before i.
-fn first_in(block: &[u8]) -> u8
-    requires { length block.now ≡ 64 }
+fn first_in(block: &[u8; 64]) -> u8
     ensures { result ≡ least block.now 64 }
 {
     let mut first: u8 = 255;
-    let mut i: u8 = 0;
-    while i < 64 {
-        let b = block[i as usize];
-        first = lesser(first, by_break(b, i, 255));
-        i += 1;
+    for i in 0u8..64 {
+        let place = if block[usize::from(i)] == 10 { i } else { 255 };
+        first = first.min(place);
     }
     first
 }
 
 // ---- the end of a line
 
-// From a place on, the place of the first byte 10, or the text's end, byte by byte.
-// Invariant: from i on that is the same place.
-fn end_bytes(text: &[u8], at: usize) -> usize
-    requires { at ≤ length text.now }
-    ensures { result ≡ end_from text.now at }
+// How many bytes there are before the first byte 10, or in all, byte by byte. What the loop has passed has none.
+fn before_break(text: &[u8]) -> usize
+    ensures { result ≡ before_break text.now }
 {
-    let mut i = at;
-    while i < text.len() {
-        if text[i] == 10 {
+    for (i, b) in text.iter().enumerate() {
+        if *b == 10 {
             return i;
         }
-        i += 1;
     }
-    i
+    text.len()
 }
 
-// The same in blocks.
+// From a place on, the place of the first byte 10, or the text's end, in blocks.
 // Invariant: from i on it is the same place.
 fn end_blocks(text: &[u8], at: usize) -> usize
     requires { at ≤ length text.now }
     ensures { result ≡ end_from text.now at }
 {
     let mut i = at;
-    while 64 <= text.len() - i {
-        let first = first_in(&text[i..i + 64]);
+    while let Some(block) = text[i..].first_chunk::<64>() {
+        let first = first_in(block);
         if first < 64 {
-            return i + first as usize;
+            return i + usize::from(first);
         }
         i += 64;
     }
-    end_bytes(text, i)
+    i + before_break(&text[i..])
 }
 
 // From a place on, the place of the first byte 10, or the text's end. A client's text may have many empty lines: the first byte tells.
@@ -110,20 +78,18 @@ pub(crate) fn line_end(text: &[u8], at: usize) -> usize
 // ---- the start of a line
 
 // From a place on, the place behind the n-th byte 10, or the text's end, line by line.
-// Invariant: from i on that is the place behind the byte 10 with the number `left`.
+// Invariant: from i on that is the place behind the byte 10 with the number that is left.
 fn past_lines(text: &[u8], at: usize, n: u16) -> usize
     requires { at ≤ length text.now }
     ensures { result ≡ past_from text.now at n }
 {
-    let mut left = n;
     let mut i = at;
-    while 0 < left {
+    for done in 0..n {
         let end = line_end(text, i);
         if end == text.len() {
             return end;
         }
         i = end + 1;
-        left -= 1;
     }
     i
 }
@@ -138,12 +104,12 @@ pub(crate) fn line_start(text: &[u8], n: u16) -> usize
     }
     let mut left = n;
     let mut i = 0;
-    while 64 <= text.len() - i {
-        let here = breaks_in(&text[i..i + 64]) as u16;
+    while let Some(block) = text[i..].first_chunk::<64>() {
+        let here = u16::from(breaks_in(block));
         if left <= here {
             return past_lines(text, i, left);
         }
-        left = left - here;
+        left -= here;
         i += 64;
     }
     past_lines(text, i, left)

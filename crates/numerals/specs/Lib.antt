@@ -1,5 +1,3 @@
 -- Comments cite document 01 by its sections; docs/RULES.md says it in words, under the same headings.
 -- The rules:
 pub mod Numbers
--- Internal: a number's digits as the code reads them.
-pub mod Reads

@@ -1,9 +1,7 @@
 -- The numbers that the desk reads (document 01, 'The desk program').
-use Rattle.std.specs.Prelude.{ℕ, ◌+◌, ◌-◌, ◌*◌, Bool, cond, not, ◌&&◌, ◌||◌, List, [], ◌∷◌, eqb, leb, length, get_or, drop}
+use Rattle.std.specs.Prelude.{ℕ, ◌+◌, ◌-◌, ◌*◌, Bool, cond, not, ◌&&◌, ◌||◌, List, [], ◌∷◌, eqb, leb, length, get_or, drop, Option, Some, None}
 use Rattle.vocabulary.specs.Answer.{answer}
 use Rattle.vocabulary.specs.Parsed.{Parsed, got, refused}
-use Rattle.numerals.specs.declared.Numeral.{Numeral}
-use Rattle.numerals.specs.declared.Numeral.TheVariants.{Read, Ill}
 
 -- The byte at a place; 256, which is no byte, past the end.
 abbrev pub byte_at : List ℕ → ℕ → ℕ
@@ -41,6 +39,6 @@ number_at text place =
     cond (is_number digits) (got (value_after 0 digits, place + length digits)) ill_formed
 
 -- A number as `read_number` hands it back.
-abbrev pub numeral_of : Numeral → Parsed (ℕ × ℕ)
-numeral_of (Read value next) = got (value, next)
-numeral_of Ill = ill_formed
+abbrev pub numeral_of : Option (ℕ × ℕ) → Parsed (ℕ × ℕ)
+numeral_of (Some x) = got x
+numeral_of None = ill_formed

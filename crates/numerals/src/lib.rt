@@ -1,59 +1,54 @@
 // A number in decimal digits, read at a place of a text (document 01, 'The desk program').
 #![tactic(auto)]
 
-ghost use Rattle.std.specs.Prelude.{◌≤◌, ◌≡◌, drop};
-ghost use Rattle.numerals.specs.Numbers.{byte_at, is_digit, number_at, numeral_of};
-ghost use Rattle.numerals.specs.Reads.{more_digits};
+ghost use Rattle.std.specs.Prelude.{◌≤◌, ◌≡◌, length};
+ghost use Rattle.std.specs.Bool.{then_some};
+ghost use Rattle.std.specs.List.{prefix_len};
+ghost use Rattle.numerals.specs.Numbers.{digits_of, is_digit, is_number, number_at, numeral_of, value_after};
 
-// A number that was read and the place after it.
-#[derive(Clone, Copy)]
-pub enum Numeral {
-    Read(u16, usize),
-    Ill,
-}
-
-// The byte at a place, or 256 where there is none.
-fn byte_at(text: &[u8], place: usize) -> u16
-    ensures { result ≡ byte_at text.now place }
+// How many digits a text begins with.
+fn digits_len(text: &[u8]) -> usize
+    ensures { result ≡ prefix_len is_digit text.now }
 {
-    if place < text.len() {
-        return text[place] as u16;
-    }
-    256
+    text.iter().take_while(|b| b.is_ascii_digit()).count()
 }
 
-fn is_digit(b: u16) -> bool
-    ensures { result ≡ is_digit b }
+// The digits that a text begins with.
+#[tactic(auto, using(crate::proofs::Digits::digits_taken))]
+fn digits_of(text: &[u8]) -> &[u8]
+    ensures { result.now ≡ digits_of text.now }
 {
-    (48 <= b) & (b <= 57)
+    &text[..digits_len(text)]
 }
 
-// Reads the digits that are left of a number, of which `n` have made `value`.
-fn more_digits(text: &[u8], at: usize, n: usize, value: u32) -> Numeral
-    requires { (n ≤ 5) × (value ≤ 65535) }
-    ensures { numeral_of result ≡ more_digits n value (drop at text.now) at }
+// The number that digits make.
+fn value_of(digits: &[u8]) -> u32
+    requires { length digits.now ≤ 5 }
+    ensures { result ≡ value_after 0 digits.now }
 {
-    let b = byte_at(text, at);
-    if !is_digit(b) {
-        return Numeral::Read(value as u16, at);
+    let mut value: u32 = 0;
+    for digit in digits {
+        value = value * 10 + u32::from(digit.saturating_sub(b'0'));
     }
-    let longer = value * 10 + (b as u32 - 48);
-    if (n == 5) | (65_535 < longer) {
-        return Numeral::Ill;
-    }
-    more_digits(text, at + 1, n + 1, longer)
+    value
 }
 
-// Reads the number at a place.
-pub fn read_number(text: &[u8], place: usize) -> Numeral
+// The number that digits write: one to five of them, no needless leading 0, at most 65,535.
+fn number_of(digits: &[u8]) -> Option<u16>
+    ensures { result ≡ then_some (is_number digits.now) (value_after 0 digits.now) }
+{
+    let first = *digits.first()?;
+    if 5 < digits.len() || (1 < digits.len() && first == b'0') {
+        return None;
+    }
+    u16::try_from(value_of(digits)).ok()
+}
+
+// Reads the number at a place: its value, and the place after it.
+pub fn read_number(text: &[u8], place: usize) -> Option<(u16, usize)>
     ensures { numeral_of result ≡ number_at text.now place }
 {
-    let first = byte_at(text, place);
-    if !is_digit(first) {
-        return Numeral::Ill;
-    }
-    if (first == 48) & is_digit(byte_at(text, place + 1)) {
-        return Numeral::Ill;
-    }
-    more_digits(text, place, 0, 0)
+    let digits = digits_of(text.get(place..)?);
+    let value = number_of(digits)?;
+    Some((value, place + digits.len()))
 }

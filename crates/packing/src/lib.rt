@@ -7,19 +7,11 @@ ghost use Rattle.packing.specs.Packed.{quarter, byte_of, byte_at, packed};
 ghost use Rattle.packing.specs.CopyOutcome.{copy_outcome, packs};
 ghost use Rattle.packing.specs.Answers.{packing};
 
-// The answers of packing: 0; 60 with the place of the first cell above 3; 61, the lengths don't match.
-#[derive(Clone, Copy)]
-pub enum Packing {
-    Packed,
+// The refusals of packing: 60 with the place of the first cell above 3; 61, the lengths don't match.
+#[derive(Clone, Copy, PartialEq, Eq)]
+pub enum PackError {
     CellAbove(usize),
     Unequal,
-}
-
-// The bytes that a number of cells takes: a quarter of it, rounded up.
-fn bytes_for(cells: usize) -> usize
-    ensures { result ≡ quarter cells }
-{
-    cells / 4 + (cells % 4 + 3) / 4
 }
 
 // Four cells in a byte, the first in the lowest two bits. The four make a word, which a compiler can read at once where they lie in a row; one
@@ -36,10 +28,7 @@ fn byte_of(a: u8, b: u8, c: u8, d: u8) -> u8
 fn at_or_0(bytes: &[u8], i: usize) -> u8
     ensures { result ≡ get_or bytes.now i 0 }
 {
-    if i < bytes.len() {
-        return bytes[i];
-    }
-    0
+    bytes.get(i).copied().unwrap_or(0)
 }
 
 // Byte k of the packed form, of four cells that are there.
@@ -72,28 +61,25 @@ fn write_bytes(cells: &[u8], bytes: &mut [u8])
     ensures { bytes.new ≡ packed cells.now }
 {
     let whole = cells.len() / 4;
-    let mut k = 0;
-    while k < whole {
+    for k in 0..whole {
         bytes[k] = whole_byte(cells, k);
-        k += 1;
     }
-    if whole == bytes.len() {
-        return;
+    if whole < bytes.len() {
+        bytes[whole] = last_byte(cells, whole);
     }
-    bytes[whole] = last_byte(cells, whole);
 }
 
 // Packs `cells` into `packed`; a refusal leaves `packed` as it was.
-pub fn pack(cells: &[u8], packed: &mut [u8]) -> Packing
+pub fn pack(cells: &[u8], packed: &mut [u8]) -> Result<(), PackError>
     ensures { copy_outcome (packing result) packed.new ≡ packs cells.now packed.old }
 {
-    if packed.len() != bytes_for(cells.len()) {
-        return Packing::Unequal;
+    if packed.len() != cells.len().div_ceil(4) {
+        return Err(PackError::Unequal);
     }
     let above = cells::first_above(cells);
     if above < cells.len() {
-        return Packing::CellAbove(above);
+        return Err(PackError::CellAbove(above));
     }
     write_bytes(cells, packed);
-    Packing::Packed
+    Ok(())
 }

@@ -14,6 +14,8 @@ use borrow.Author.Tests.{eqb-true, eq-eqb, ne_eqb, not-false, leb-false, lt-leb,
 use Rattle.vocabulary.specs.Those.{those, some}
 use Rattle.vocabulary.proofs.Those.{below_suc, those-empty, those-never, some-none}
 use Rattle.vocabulary.proofs.Bools.{neither}
+use Rattle.vocabulary.proofs.Chains.{any-those}
+use Rattle.std.specs.List.{list_any}
 use Rattle.person_list.specs.PersonList.{nobody, person_of, bad_persons, own_numbers}
 
 -- The person of a login that the list has is its entry.
@@ -47,10 +49,10 @@ gathered-both gathered one other p h =
     ∙ or_assoc (not (eqb gathered 0)) (leb p one) (leb p other)
 
 -- Of a list of length P the entries alone are judged.
-pub judged-entries : (p : ℕ) (persons : List ℕ) → length persons ≡ p → {found : Bool} →
-    found ≡ some (those (λ s. leb p (person_of persons s)) (length persons)) → found ≡ bad_persons p persons
+pub judged-entries : (p : ℕ) (persons : List ℕ) → length persons ≡ p → {found : Bool} → found ≡ list_any (λ e. leb p e) persons → found ≡ bad_persons p persons
 unfolding bad_persons
-judged-entries p persons whole e = rw (e, eq-eqb (length persons) p whole)
+judged-entries p persons whole e =
+    rw (eq-eqb (length persons) p whole) (e ∙ any-those (λ e. leb p e) (λ s. leb p (person_of persons s)) persons nobody (λ s h. refl))
 
 -- ---- what 10 lets pass
 

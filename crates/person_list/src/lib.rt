@@ -1,68 +1,47 @@
 // The person list: the person of each login, and refusal 10 (document 02, C-14). Lists of any length may be given.
 #![tactic(auto)]
 
-ghost use Rattle.std.specs.Prelude.{◌+◌, ◌-◌, ◌≤◌, ◌≡◌, leb, length};
-ghost use Rattle.vocabulary.specs.Those.{those, some};
+ghost use Rattle.std.specs.List.{list_any};
+ghost use Rattle.std.specs.Prelude.{◌+◌, ◌≤◌, ◌≡◌, leb, length};
 ghost use Rattle.person_list.specs.PersonList.{bad_persons, own_numbers, person_of};
 
 use ids::{LoginNo, PersonNo};
 
-// Whether an entry is P or more, one by one: it ends at the first. What the loop has passed has none.
+// Whether an entry is P or more, one by one: it ends at the first.
 fn seek_beyond(logins: u16, persons: &[u16]) -> bool
-    ensures { result ≡ some (those (λ s. leb logins (person_of persons.now s)) (length persons.now)) }
+    ensures { result ≡ list_any (λ p. leb logins p) persons.now }
 {
-    let mut s = 0;
-    while s < persons.len() {
-        if logins <= persons[s] {
-            return true;
-        }
-        s += 1;
-    }
-    false
-}
-
-// By how much an entry exceeds P less 1.
-fn excess(entry: u16, last: u16) -> u16
-    ensures { result ≡ entry - last }
-{
-    if last < entry {
-        return entry - last;
-    }
-    0
+    persons.iter().any(|p| logins <= *p)
 }
 
 // Whether an entry is P or more, of many: without a way out of the loop, and with what exceeds gathered by its bits, so that it runs on many entries
-// at once in few instructions. Invariant: nothing is gathered just where no entry before s is P or more.
+// at once in few instructions. Invariant: nothing is gathered just where no entry that the loop has passed is P or more.
 fn any_beyond(logins: u16, persons: &[u16]) -> bool
     requires { 1 ≤ logins }
-    ensures { result ≡ some (those (λ s. leb logins (person_of persons.now s)) (length persons.now)) }
+    ensures { result ≡ list_any (λ p. leb logins p) persons.now }
 {
     let last = logins - 1;
     let mut gathered: u16 = 0;
-    let mut s = 0;
-    while s < persons.len() {
-        gathered = gathered | excess(persons[s], last);
-        s += 1;
+    for entry in persons {
+        gathered |= entry.saturating_sub(last);
     }
     gathered != 0
 }
 
-// Whether an entry is P or more, in a list whose first `half` and last `half` entries, which may overlap, are all of it. Without a way out of the loop,
-// and with what exceeds gathered by its bits, so that it runs on many entries at once; each caller's `half` is a constant, so that the compiler writes
-// every turn out. Invariant: nothing is gathered just where no entry that either half has passed is P or more.
-fn beyond_in_halves(logins: u16, persons: &[u16], half: usize) -> bool
-    requires { (1 ≤ logins) × (half ≤ length persons.now) × (length persons.now ≤ half + half) }
-    ensures { result ≡ some (those (λ s. leb logins (person_of persons.now s)) (length persons.now)) }
+// Whether an entry is P or more, in a list whose first `HALF` and last `HALF` entries, which may overlap, are all of it. Without a way out of the loop,
+// and with what exceeds gathered by its bits, so that it runs on many entries at once; `HALF` is a constant, so that the compiler writes every turn out.
+// Invariant: nothing is gathered just where no entry that either half has passed is P or more.
+fn beyond_in_halves<const HALF: usize>(logins: u16, persons: &[u16]) -> bool
+    requires { (1 ≤ logins) × (HALF ≤ length persons.now) × (length persons.now ≤ HALF + HALF) }
+    ensures { result ≡ list_any (λ p. leb logins p) persons.now }
 {
     let most = logins - 1;
-    let second = persons.len() - half;
+    let second = persons.len() - HALF;
     let mut gathered: u16 = 0;
-    let mut s = 0;
-    while s < half {
-        let front = excess(persons[s], most);
-        let back = excess(persons[second + s], most);
+    for s in 0..HALF {
+        let front = persons[s].saturating_sub(most);
+        let back = persons[second + s].saturating_sub(most);
         gathered = gathered | front | back;
-        s += 1;
     }
     gathered != 0
 }
@@ -79,16 +58,16 @@ pub fn bad_persons(logins: usize, persons: &[u16]) -> bool
         return seek_beyond(logins as u16, persons);
     }
     if logins <= 16 {
-        return beyond_in_halves(logins as u16, persons, 8);
+        return beyond_in_halves::<8>(logins as u16, persons);
     }
     if logins <= 32 {
-        return beyond_in_halves(logins as u16, persons, 16);
+        return beyond_in_halves::<16>(logins as u16, persons);
     }
     if logins <= 64 {
-        return beyond_in_halves(logins as u16, persons, 32);
+        return beyond_in_halves::<32>(logins as u16, persons);
     }
     if logins <= 128 {
-        return beyond_in_halves(logins as u16, persons, 64);
+        return beyond_in_halves::<64>(logins as u16, persons);
     }
     if 65535 < logins {
         return false;
@@ -100,23 +79,12 @@ pub fn bad_persons(logins: usize, persons: &[u16]) -> bool
 pub fn person_of(persons: &[u16], login: LoginNo) -> PersonNo
     ensures { result.0 ≡ person_of persons.now login.0 }
 {
-    let place = login.0 as usize;
-    if place < persons.len() {
-        return PersonNo(persons[place]);
-    }
-    PersonNo(65535)
+    PersonNo(persons.get(login.0 as usize).copied().unwrap_or(65535))
 }
 
 // Every login its own number: the list of a house of 128 logins. Fewer logins take as many from its start.
-// Invariant: the entries before s are in place.
 pub fn own_numbers() -> [u16; 128]
     ensures { result ≡ own_numbers 128 }
 {
-    let mut list = [0u16; 128];
-    let mut s: usize = 0;
-    while s < 128 {
-        list[s] = s as u16;
-        s += 1;
-    }
-    list
+    std::array::from_fn(|s| s as u16)
 }

@@ -1,42 +1,43 @@
 // Refusal 2: searches for a folder with exactly one 0.
-ghost use Rattle.std.specs.Prelude.{◌<◌, ◌≤◌, ◌≡◌, length, get_or};
+ghost use Rattle.std.specs.Prelude.{◌≡◌, eqb, length, slice_get};
 ghost use Rattle.vocabulary.specs.Those.{those, some};
-ghost use Rattle.register.specs.Register.{register_of, lone_zero};
+ghost use Rattle.register.specs.Lent.{labels_lent};
+ghost use Rattle.register.specs.Register.{exactly_one, folders, lone_zero};
+
+use ids::{ClassNo, ClientNo};
+use register::Labels;
 
 // Whether exactly one of a folder's class and client is 0.
-fn lone_zero(classes: &[u16], clients: &[u16], f: usize) -> bool
-    requires { (f < length classes.now) × (f < length clients.now) }
-    ensures { result ≡ lone_zero (register_of 0 classes.now clients.now) f }
+fn lone_zero(class: ClassNo, client: ClientNo) -> bool
+    ensures { result ≡ exactly_one (eqb class.0 0) (eqb client.0 0) }
 {
-    (classes[f] == 0) != (clients[f] == 0)
+    (class == ClassNo(0)) != (client == ClientNo(0))
 }
 
 // Whether any folder has exactly one 0. Without a way out of the loop, so that it runs on many folders at once.
-pub(crate) fn any_lone_zero(classes: &[u16], clients: &[u16]) -> bool
-    requires { length classes.now ≡ length clients.now }
-    ensures { result ≡ some (those (lone_zero (register_of 0 classes.now clients.now)) (length classes.now)) }
+fn any_lone_zero(labels: Labels) -> bool
+    requires { length labels.classes.now ≡ length labels.clients.now }
+    ensures { result ≡ some (those (lone_zero (labels_lent labels)) (folders (labels_lent labels))) }
 {
     let mut any = false;
-    let mut f = 0;
-    while f < classes.len() {
-        any = any | lone_zero(classes, clients, f);
-        f += 1;
+    for f in 0..labels.classes.len() {
+        any |= lone_zero(ClassNo(labels.classes[f]), ClientNo(labels.clients[f]));
     }
     any
 }
 
-// The first folder with exactly one 0, or F. What the loop has passed has none.
-pub(crate) fn first_lone_zero(classes: &[u16], clients: &[u16]) -> usize
-    requires { length classes.now ≡ length clients.now }
-    ensures value { result ≡ get_or (those (lone_zero (register_of 0 classes.now clients.now)) (length classes.now)) 0 (length classes.now) }
-    ensures upper_bound { result ≤ length classes.now }
+// The first folder with exactly one 0. Mostly there is none, and whether there is any is asked first, since that is quicker.
+pub(crate) fn first_lone_zero(labels: Labels) -> Option<usize>
+    requires { length labels.classes.now ≡ length labels.clients.now }
+    ensures { result ≡ slice_get (those (lone_zero (labels_lent labels)) (folders (labels_lent labels))) 0 }
 {
-    let mut f = 0;
-    while f < classes.len() {
-        if lone_zero(classes, clients, f) {
-            return f;
-        }
-        f += 1;
+    if !any_lone_zero(labels) {
+        return None;
     }
-    f
+    for f in 0..labels.classes.len() {
+        if lone_zero(ClassNo(labels.classes[f]), ClientNo(labels.clients[f])) {
+            return Some(f);
+        }
+    }
+    None
 }

@@ -12,7 +12,7 @@ use lib.ListN.{length, get_or, set, replicate, length-replicate, get_or-replicat
 use lib.Seq.{get_or-set_same, get_or-set_other}
 use borrow.Author.Tests.{eq-eqb, ne_eqb, eqb-true}
 use Rattle.vocabulary.proofs.Those.{below_suc}
-use Rattle.register_search.specs.Chains.{past_last, of_client, slot_of, in_slot, SlotsListed, Chained}
+use Rattle.register_search.specs.Chains.{past_last, of_client, slot_of, in_slot, Chained}
 
 pub past_last-suc : (p : ℕ → Bool) (n : ℕ) → past_last p (n + 1) ≡ cond (p n) (n + 1) (past_last p n)
 unfolding past_last
@@ -73,17 +73,6 @@ past_last-within p q w (suc n) = at (past_last p n) (p n) refl (past_last-within
 pub of_client-in_slot : (clients : List ℕ) (c k : ℕ) → in_slot clients (slot_of c) k ≡ false → of_client clients c k ≡ false
 of_client-in_slot clients c k e =
     ne_eqb (get_or clients k 0) c (λ same. absurd (false≢true (sym e ∙ eq-eqb (slot_of (get_or clients k 0)) (slot_of c) (ap slot_of same))))
-
--- One slot more.
-pub slots-more : (clients slots : List ℕ) (n : ℕ) → n < 512 → SlotsListed clients slots n → SlotsListed clients (set slots n (slot_of (get_or clients n 0))) (n + 1)
-slots-more clients slots n h t =
-    record {
-      room = length-set slots n (slot_of (get_or clients n 0)) ∙ t.room;
-      each-slot = λ g k. elim (ℕ_discrete g n) [
-        | yes e ↦ rw (e, get_or-set_same slots n (slot_of (get_or clients n 0)) 0 (omega (arith, t.room)))
-        | no d ↦ get_or-set_other slots n g (slot_of (get_or clients n 0)) 0 d ∙ t.each-slot g (omega arith)
-      ];
-    }
 
 get_d-zeros : (n i : ℕ) → get_or {A = ℕ} (replicate n 0) i 0 ≡ 0
 get_d-zeros zero i = refl

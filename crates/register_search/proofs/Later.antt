@@ -7,9 +7,10 @@ use native.Mathlib.Omega.{arith}
 use native.Mathlib.Decide.{ℕ_discrete, dec_lt}
 use lib.Dec.{eqb}
 use lib.ListN.{get_or}
+use Rattle.std.specs.Prelude.{None, slice_get}
 use borrow.Author.Tests.{eq-eqb, ne_eqb, eqb-true, lt-ltb}
 use Rattle.vocabulary.specs.Those.{those, some}
-use Rattle.vocabulary.proofs.Those.{those-empty, those-never, some-none, first-end}
+use Rattle.vocabulary.proofs.Those.{those-empty, those-never, some-none}
 use Rattle.register.specs.Register.{Register, folders, class_of, client_of, differs, earlier, later}
 use Rattle.register_search.specs.Chains.{past_last, of_client}
 use Rattle.register_search.specs.Marks.{Clean, Telling, clash}
@@ -85,9 +86,9 @@ pub clean-one : (r : Register) → Clean r 1
 unfolding earlier those
 clean-one r = refl
 
-pub later-one : (r : Register) → folders r ≤ 1 → folders r ≡ get_or (later r) 0 (folders r)
+pub later-one : (r : Register) → folders r ≤ 1 → None ≡ slice_get (later r) 0
 unfolding later
-later-one r h = sym (first-end p (folders r) (folders r) (those-never p (folders r) (λ f below. those-empty p 1 (clean-one r) f (omega arith))) (omega arith) (omega arith))
+later-one r h = rw (those-never p (folders r) (λ f below. those-empty p 1 (clean-one r) f (omega arith)))
   where
     p : ℕ → Bool
     p f = some (earlier r f)

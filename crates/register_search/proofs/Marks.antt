@@ -7,7 +7,7 @@ use native.Mathlib.Omega.{arith}
 use native.Mathlib.Decide.{ℕ_discrete}
 use lib.ListN.{get_or, set, replicate, length-replicate, get_or-replicate, length-set}
 use lib.Seq.{get_or-set_same, get_or-set_other}
-use Rattle.register_search.specs.Marks.{Alone, Marked, Telling, mark_of}
+use Rattle.register_search.specs.Marks.{Marked, Telling, mark_of}
 
 -- No folder has left a mark yet.
 pub marked-none : (clients : List ℕ) → Marked clients (replicate 128 0) 0
@@ -42,10 +42,6 @@ marked_more clients marks n t =
           | yes e ↦ absurd (d (rw e refl))
           | no other ↦ rw (old (mark_of (get_or clients g 0)) d) (t.left g (omega arith))
         ]
-
--- A folder without a mark in its client's place is alone of its client.
-pub marked-alone : (clients marks : List ℕ) (f : ℕ) → Marked clients marks f → get_or marks (mark_of (get_or clients f 0)) 0 ≡ 0 → Alone clients f
-marked-alone clients marks f t z g h same = omega (arith, z, rw same at (t.left g h))
 
 -- One that a folder of its client left is to be believed.
 pub same-telling : (clients : List ℕ) (f mark : ℕ) → 0 < mark → get_or clients (mark - 1) 0 ≡ get_or clients f 0 → Telling clients f mark

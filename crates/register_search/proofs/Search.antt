@@ -1,43 +1,37 @@
--- What the search for refusal 3 answers, case by case, by the first find (the number of folders stands for 'none').
-use Prim.Native.Nat.{ℕ, ◌≤◌, ◌<◌}
-use mathlib.Core.Path.{◌≡◌}
-use mathlib.Core.Bool.{true, false}
+-- What the search for refusal 3 answers, case by case, by the first finds.
+use Prim.Native.Nat.{ℕ, ◌<◌}
+use mathlib.Core.Path.{◌≡◌, sym, ◌∙◌}
+use mathlib.Core.Bool.{true, false, false≢true}
 use mathlib.Core.List.{[], ◌∷◌}
-use lib.Dec.{leb, eqb}
-use lib.ListN.{length, get_or}
-use borrow.Author.Tests.{leb-true, eqb-true}
+use Rattle.std.specs.Prelude.{Some, None, slice_get}
 use Rattle.vocabulary.specs.Answer.{answer, judge}
-use Rattle.vocabulary.specs.Those.{those, some}
-use Rattle.vocabulary.proofs.Bools.{both}
-use Rattle.vocabulary.proofs.Those.{first_some, first-none, first-smallest, smallest-holds}
-use Rattle.register.specs.Register.{Register, folders, differs, earlier, later}
+use Rattle.register.specs.Register.{Register, folders, earlier, later}
 use Rattle.register_search.specs.Search.{searched, search_answer}
-
--- The first folder that refusal 3 carries, or F.
-abbrev pub first_later : Register → ℕ
-first_later r = get_or (later r) 0 (folders r)
-
--- What it tells that the lists are searched.
-pub searched-sizes : (r : Register) → searched r ≡ true → (folders r ≤ 512) × (folders r ≡ length r.clients)
-searched-sizes r e =
-    let parts = both (leb (folders r) 512) (eqb (folders r) (length r.clients)) e in
-    (leb-true (folders r) 512 parts.0, eqb-true (folders r) (length r.clients) parts.1)
+use Rattle.register_search.proofs.First.{found, nothing, first-holds}
 
 module _ (r : Register) where
   pub unsearched : searched r ≡ false → search_answer r ≡ answer 0 []
   unfolding search_answer judge
   unsearched out = rw out
 
-  pub search-found :
-      searched r ≡ true → first_later r < folders r →
-      search_answer r ≡ answer 3 (first_later r ∷ get_or (earlier r (first_later r)) 0 (first_later r) ∷ [])
-  unfolding search_answer judge later earlier
-  search-found fits found =
-      rw (fits, (first_some _ _ _ found).0, (first_some _ _ _ found).1, first-smallest (differs r (first_later r)) (first_later r) (first_later r) (differs-earlier found))
-    where
-      differs-earlier : first_later r < folders r → some (those (differs r (first_later r)) (first_later r)) ≡ true
-      differs-earlier found = rw (first_some _ _ _ found).1 at (smallest-holds _ _ (first_some _ _ _ found).0).1
+  pub search-none : searched r ≡ true → None ≡ slice_get (later r) 0 → search_answer r ≡ answer 0 []
+  unfolding search_answer judge
+  search-none fits never = rw (fits, nothing (later r) never)
 
-  pub search-none : searched r ≡ true → folders r ≤ first_later r → search_answer r ≡ answer 0 []
-  unfolding search_answer judge later
-  search-none fits never = rw (fits, first-none _ _ never)
+  module _ (f : ℕ) (first : Some f ≡ slice_get (later r) 0) where
+    pub search-found : (g : ℕ) → searched r ≡ true → Some g ≡ slice_get (earlier r f) 0 → search_answer r ≡ answer 3 (f ∷ g ∷ [])
+    unfolding search_answer judge
+    search-found g fits before = rw (fits, (found (later r) f first).0, (found (later r) f first).1, (found (earlier r f) g before).1)
+
+    pub later-below : f < folders r
+    unfolding later
+    later-below = (first-holds _ (folders r) f first).0
+
+    -- The folder that is found differs from an earlier one.
+    pub search-sure : None ≡ slice_get (earlier r f) 0 → ⊥
+    unfolding later
+    search-sure none = false≢true (sym (nothing (earlier r f) none) ∙ (first-holds _ (folders r) f first).1)
+
+pub earlier-below : (r : Register) (f g : ℕ) → Some g ≡ slice_get (earlier r f) 0 → g < f
+unfolding earlier
+earlier-below r f g before = (first-holds _ f g before).0

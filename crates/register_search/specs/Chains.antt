@@ -1,7 +1,5 @@
 -- Internal: the table by which refusal 3 is sought in one pass. No rule of document 01 stands here.
 use Rattle.std.specs.Prelude.{ℕ, zero, suc, ◌+◌, ◌≤◌, ◌<◌, ◌/◌, ◌%◌, ◌≡◌, Bool, cond, List, length, get_or, eqb}
-use Rattle.register_search.specs.declared.table.Sought.{Sought}
-use Rattle.register_search.specs.declared.table.Sought.TheVariants.{Past, GaveUp}
 
 -- One more than the last number below n that passes the test, or 0.
 unfoldable pub past_last : (ℕ → Bool) → ℕ → ℕ
@@ -32,8 +30,3 @@ pub record Chained (clients heads nexts : List ℕ) (n : ℕ) : Type 0 where
   pub at_head : (s : ℕ) → s < 2048 → get_or heads s 0 ≡ past_last (in_slot clients s) n
   pub fresh : (g : ℕ) → n ≤ g → get_or nexts g 0 ≡ 0
   pub at_next : (g : ℕ) → g < n → get_or nexts g 0 ≡ past_last (in_slot clients (slot_of (get_or clients g 0))) g
-
--- What was found is this; of a walk that was given up nothing is said.
-abbrev pub FoundIs : Sought → ℕ → Type 0
-FoundIs (Past past left) n = past ≡ n
-FoundIs GaveUp n = Unit {0}

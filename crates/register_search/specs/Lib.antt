@@ -2,5 +2,6 @@
 -- The rules:
 pub mod Search
 -- Internal:
+pub mod Folders
 pub mod Chains
 pub mod Marks

@@ -3,60 +3,52 @@
 #![tactic(auto)]
 
 mod few; // among few folders, by marks
+mod folders; // the folders that are searched
 mod scan; // plain searches through the labels
 mod table; // among many, by a table
 
-ghost use Rattle.std.specs.Prelude.{◌≤◌, ◌≡◌, length, get_or};
-ghost use Rattle.register.specs.Lent.{lent_folders};
-ghost use Rattle.register.specs.Register.{register_of, later};
+ghost use Rattle.std.specs.Prelude.{◌≡◌, MatchOption, slice_get, true, false};
+ghost use Rattle.register.specs.Lent.{labels_lent};
+ghost use Rattle.register.specs.Register.{later};
+ghost use Rattle.register_search.specs.Folders.{register_in};
 ghost use Rattle.register_search.specs.Search.{searched, search_answer, clash_answer};
 
 use crate::few::walk_few;
-use crate::scan::first_earlier;
+use crate::folders::Folders;
 use crate::table::walk_later;
 use ids::FolderNo;
+use register::Labels;
 
-// What the search found.
-#[derive(Clone, Copy)]
-pub enum Clash {
-    Never,
-    // the first folder that differs from an earlier one of its client, and the first such earlier one
-    Between(FolderNo, FolderNo),
+// The folders, if the lists are of one length, with at most 512 folders.
+fn fitting(labels: Labels) -> Option<Folders>
+    ensures { MatchOption result (searched (labels_lent labels) ≡ false) (λ e. (register_in e ≡ labels_lent labels) × (searched (labels_lent labels) ≡ true)) }
+{
+    if (labels.classes.len() <= 512) & (labels.classes.len() == labels.clients.len()) {
+        return Some(Folders { labels });
+    }
+    None
 }
 
-// Whether the lists are of one length, with at most 512 folders.
-fn lists_fit(classes: &[u16], clients: &[u16]) -> bool
-    ensures { result ≡ searched (lent_folders classes clients) }
+// The first folder that differs in class alone from an earlier one. One folder has no earlier one; with few, marks are quicker than emptying the table.
+fn first_later(folders: Folders) -> Option<usize>
+    ensures { result ≡ slice_get (later (register_in folders.entry)) 0 }
 {
-    (classes.len() <= 512) & (classes.len() == clients.len())
+    if folders.labels.classes.len() <= 1 {
+        return None;
+    }
+    if 64 < folders.labels.classes.len() {
+        return walk_later(folders);
+    }
+    walk_few(folders)
 }
 
-// The first folder that differs in class alone from an earlier one, or F. One folder has no earlier one; with few, marks are quicker than emptying
-// the table.
-fn first_later(classes: &[u16], clients: &[u16]) -> usize
-    requires { (length classes.now ≤ 512) × (length classes.now ≡ length clients.now) }
-    ensures { result ≡ get_or (later (register_of 0 classes.now clients.now)) 0 (length classes.now) }
+// The two folders that refusal 3 carries, where lists that fit have such: the first folder that differs from an earlier one of its client, and the first
+// such earlier one.
+pub fn first_clash(labels: Labels) -> Option<(FolderNo, FolderNo)>
+    ensures { clash_answer result ≡ search_answer (labels_lent labels) }
 {
-    if classes.len() <= 1 {
-        return classes.len();
-    }
-    if 64 < classes.len() {
-        return walk_later(classes, clients);
-    }
-    walk_few(classes, clients)
-}
-
-// The two folders that refusal 3 carries, where lists that fit have such.
-pub fn first_clash(classes: &[u16], clients: &[u16]) -> Clash
-    ensures { clash_answer result ≡ search_answer (lent_folders classes clients) }
-{
-    if !lists_fit(classes, clients) {
-        return Clash::Never;
-    }
-    let f = first_later(classes, clients);
-    if f < classes.len() {
-        let g = first_earlier(classes, clients, f);
-        return Clash::Between(FolderNo(f as u16), FolderNo(g as u16));
-    }
-    Clash::Never
+    let folders = fitting(labels)?;
+    let f = first_later(folders)?;
+    let g = folders.first_earlier(f)?;
+    Some((FolderNo(f as u16), FolderNo(g as u16)))
 }

@@ -1,11 +1,19 @@
 // Refusal 3 in one pass: a table of the folders met so far, by their clients. Each slot heads a chain of its folders, the
 // last first; the numbers kept are one more than the folder's, and 0 is the end.
-ghost use Rattle.std.specs.Prelude.{◌<◌, ◌≤◌, ◌+◌, ◌≡◌, length, get_or, set};
-ghost use Rattle.register_search.specs.Chains.{past_last, of_client, slot_of, SlotsListed, Chained, FoundIs};
-ghost use Rattle.register.specs.Register.{register_of, later};
+ghost use Rattle.std.specs.Prelude.{◌<◌, ◌≤◌, ◌+◌, ◌≡◌, length, get_or, set, slice_get, IfSome};
+ghost use Rattle.register_search.specs.Chains.{past_last, of_client, slot_of, SlotsListed, Chained};
+ghost use Rattle.register_search.specs.Folders.{register_in};
+ghost use Rattle.register.specs.Register.{client_of, later};
 
-use crate::scan::{clashes, search_from};
-use ids::{ClientNo, same_client};
+use crate::folders::Folders;
+use ids::ClientNo;
+
+// For each slot the last folder in it, and for each folder the last one before it in its slot.
+#[derive(Drop)]
+struct Table {
+    heads: [u16; 2048],
+    nexts: [u16; 512],
+}
 
 // A client's slot. Clients that follow on each other have different ones, also in steps of a power of two. Worked out in 16 bits.
 fn slot(client: ClientNo) -> u16
@@ -16,57 +24,13 @@ fn slot(client: ClientNo) -> u16
 }
 
 // Lists each folder's slot. A pass of its own, which goes over many folders at once.
-fn list_slots(clients: &[u16], slots: &mut [u16; 512])
-    requires { (length clients.now ≤ 512) × (length slots.old ≡ 512) }
-    ensures { SlotsListed clients.now slots.new (length clients.now) }
+fn list_slots(folders: Folders, slots: &mut [u16; 512])
+    requires { length slots.old ≡ 512 }
+    ensures { SlotsListed folders.entry.labels.clients.now slots.new (length folders.entry.labels.clients.now) }
 {
-    let mut f = 0;
-    while f < clients.len() {
-        slots[f] = slot(ClientNo(clients[f]));
-        f += 1;
+    for f in 0..folders.labels.clients.len() {
+        slots[f] = slot(ClientNo(folders.labels.clients[f]));
     }
-}
-
-// The last folder of a client, as one more than its number, or 0, and how many steps are left; or the walk was given up.
-#[derive(Clone, Copy)]
-pub(crate) enum Sought {
-    Past(usize, usize),
-    GaveUp,
-}
-
-fn wide(x: u16) -> usize
-    ensures { result ≡ x }
-{
-    x as usize
-}
-
-// Seeks the last folder before `f` of `f`'s client: walks the folders of the client's slot `s`, the last first, for at most `steps` others.
-fn last_of_client(
-    clients: &[u16],
-    heads: &[u16; 2048],
-    nexts: &[u16; 512],
-    s: usize,
-    f: usize,
-    steps: usize,
-) -> Sought
-    requires { (s ≡ slot_of (get_or clients.now f 0)) × (f < length clients.now) × ((length clients.now ≤ 512) × Chained clients.now heads.now nexts.now f) }
-    ensures { FoundIs result (past_last (of_client clients.now (get_or clients.now f 0)) f) }
-{
-    let client = ClientNo(clients[f]);
-    let mut left = steps;
-    let mut past = wide(heads[s]);
-    while past > 0 {
-        let g = past - 1;
-        if same_client(ClientNo(clients[g]), client) {
-            return Sought::Past(past, left);
-        }
-        if left == 0 {
-            return Sought::GaveUp;
-        }
-        left -= 1;
-        past = wide(nexts[g]);
-    }
-    Sought::Past(0, left)
 }
 
 // Notes the folder that headed `f`'s slot before it, as one more than its number. Mostly there was none, and the 0 that stands there is not stored again.
@@ -79,41 +43,67 @@ fn link(nexts: &mut [u16; 512], f: usize, past: u16)
     }
 }
 
-// Enters folder `f` into the table, at the head of its slot `s`.
-fn enter(clients: &[u16], heads: &mut [u16; 2048], nexts: &mut [u16; 512], s: usize, f: usize)
-    requires { (s ≡ slot_of (get_or clients.now f 0)) × (f < length clients.now) × ((length clients.now ≤ 512) × Chained clients.now heads.old nexts.old f) }
-    ensures { Chained clients.now heads.new nexts.new (f + 1) }
-{
-    link(nexts, f, heads[s]);
-    heads[s] = (f + 1) as u16;
+impl Table {
+    // Seeks the last folder before `f` of `f`'s client: walks the folders of the client's slot `s`, the last first, for at most `steps` others. It says
+    // the folder as one more than its number, or 0, and how many steps are left; or that the walk was given up.
+    fn last_of_client(
+        &self,
+        folders: Folders,
+        s: usize,
+        f: usize,
+        steps: usize,
+    ) -> Option<(usize, usize)>
+        requires { (s ≡ slot_of (client_of (register_in folders) f)) × (f < length folders.labels.clients.now) × Chained folders.labels.clients.now self.now.heads self.now.nexts f }
+        ensures { IfSome result (λ found. found.0 ≡ past_last (of_client folders.entry.labels.clients.now (client_of (register_in folders.entry) f)) f) }
+    {
+        let clients = folders.labels.clients;
+        let client = clients[f];
+        let mut left = steps;
+        let mut past = usize::from(self.heads[s]);
+        while past > 0 {
+            let g = past - 1;
+            if clients[g] == client {
+                return Some((past, left));
+            }
+            left = left.checked_sub(1)?;
+            past = usize::from(self.nexts[g]);
+        }
+        Some((0, left))
+    }
+
+    // Enters folder `f` into the table, at the head of its slot `s`.
+    fn enter(&mut self, folders: Folders, s: usize, f: usize)
+        requires { (s ≡ slot_of (client_of (register_in folders) f)) × (f < length folders.labels.clients.now) × Chained folders.labels.clients.now self.old.heads self.old.nexts f }
+        ensures { Chained folders.entry.labels.clients.now self.new.heads self.new.nexts (f + 1) }
+    {
+        link(&mut self.nexts, f, self.heads[s]);
+        self.heads[s] = (f + 1) as u16;
+    }
 }
 
-// The first folder that differs in class alone from an earlier one, or F. While no folder does, all folders of a client have one class,
-// so that the last of them stands for all. Where clients crowd in a slot, the rest is sought plainly: one step for each folder is enough
-// for clients that were not chosen to.
-pub(crate) fn walk_later(classes: &[u16], clients: &[u16]) -> usize
-    requires { (length classes.now ≤ 512) × (length classes.now ≡ length clients.now) }
-    ensures { result ≡ get_or (later (register_of 0 classes.now clients.now)) 0 (length classes.now) }
+// The first folder that differs in class alone from an earlier one. While no folder does, all folders of a client have one class, so that the last of
+// them stands for all. Where clients crowd in a slot, the rest is sought plainly: one step for each folder is enough for clients that were not chosen
+// to.
+pub(crate) fn walk_later(folders: Folders) -> Option<usize>
+    ensures { result ≡ slice_get (later (register_in folders.entry)) 0 }
 {
-    let mut nexts = [0u16; 512];
     let mut slots = [0u16; 512];
-    list_slots(clients, &mut slots);
-    let mut heads = [0u16; 2048];
-    let mut left = classes.len();
-    let mut f = 0;
-    while f < classes.len() {
-        let s = wide(slots[f]);
-        match last_of_client(clients, &heads, &nexts, s, f, left) {
-            Sought::GaveUp => return search_from(classes, clients, f),
-            Sought::Past(past, rest) => {
-                if clashes(classes, past, f) {
-                    return f;
-                }
-                left = rest;
-            }
+    list_slots(folders, &mut slots);
+    let mut table = Table {
+        heads: [0u16; 2048],
+        nexts: [0u16; 512],
+    };
+    let mut left = folders.labels.classes.len();
+    for f in 0..folders.labels.classes.len() {
+        let s = usize::from(slots[f]);
+        let Some((past, rest)) = table.last_of_client(folders, s, f, left) else {
+            return folders.search_from(f);
+        };
+        if folders.clashes(past, f) {
+            return Some(f);
         }
-        enter(clients, &mut heads, &mut nexts, s, f);
-        f += 1;
+        left = rest;
+        table.enter(folders, s, f);
     }
-    f
+    None
 }

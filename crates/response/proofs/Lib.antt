@@ -1,2 +1,1 @@
--- For callers:
 pub mod NotGranted

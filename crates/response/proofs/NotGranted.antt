@@ -1,27 +1,29 @@
--- What is known of a response that the code's `match` leaves to `_` after a grant.
-use mathlib.Core.Path.{◌≡◌, refl}
-use mathlib.Core.Bool.{false}
-use Prim.Native.Nat.{ℕ}
-use lib.Dec.{eqb}
-use Rattle.response.specs.Response.{response_answer}
-use Rattle.response.specs.declared.Response.{Response}
-use Rattle.response.specs.declared.Response.TheVariants.{Granted, OutOfRange, LoneZero, TwoClasses, MatrixLength, UnknownLogin, UnknownFolder, UnknownKind, BadCell, BadEnd, BadPersons, BadPairs, Rival, Foreign, AtStake, NoRoom}
+-- A refusal's number is not that of a grant.
+use Rattle.std.proofs.Common.{◌≡◌, refl, false, ℕ}
+use Rattle.std.specs.Prelude.{Result, Ok, Err, is_ok, eqb}
+use Rattle.register.specs.declared.RegisterFault.TheVariants.{OutOfRange, LoneZero, TwoClasses, BadPairs}
+use Rattle.response.specs.Response.{refusal_answer, response_answer}
+use Rattle.response.specs.declared.WallRefusal.TheVariants.{Rival, Foreign, AtStake}
+use Rattle.response.specs.declared.Refusal.{Refusal}
+use Rattle.response.specs.declared.Refusal.TheVariants.{Register, MatrixLength, UnknownLogin, UnknownFolder, UnknownKind, BadCell, BadEnd, BadPersons, Wall, NoRoom}
 
--- All but a grant.
-pub not-granted : (a : Response) → ((n : ℕ) → a ≡ Granted n → ⊥) → eqb (response_answer a).number 0 ≡ false
-not-granted (Granted n) k = absurd (k n refl)
-not-granted OutOfRange k = refl
-not-granted (LoneZero f) k = refl
-not-granted (TwoClasses f g) k = refl
-not-granted MatrixLength k = refl
-not-granted UnknownLogin k = refl
-not-granted UnknownFolder k = refl
-not-granted UnknownKind k = refl
-not-granted (BadCell f) k = refl
-not-granted BadEnd k = refl
-not-granted BadPersons k = refl
-not-granted BadPairs k = refl
-not-granted (Rival f) k = refl
-not-granted (Foreign f) k = refl
-not-granted (AtStake f) k = refl
-not-granted NoRoom k = refl
+pub refused : (f : Refusal) → eqb (refusal_answer f).number 0 ≡ false
+refused (Register OutOfRange) = refl
+refused (Register (LoneZero f)) = refl
+refused (Register (TwoClasses f g)) = refl
+refused (Register BadPairs) = refl
+refused MatrixLength = refl
+refused UnknownLogin = refl
+refused UnknownFolder = refl
+refused UnknownKind = refl
+refused (BadCell f) = refl
+refused BadEnd = refl
+refused BadPersons = refl
+refused (Wall (Rival f)) = refl
+refused (Wall (Foreign f)) = refl
+refused (Wall (AtStake f)) = refl
+refused NoRoom = refl
+
+pub granted-number : (r : Result ℕ Refusal) → eqb (response_answer r).number 0 ≡ is_ok r
+granted-number (Ok n) = refl
+granted-number (Err f) = refused f

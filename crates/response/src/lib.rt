@@ -2,20 +2,28 @@
 #![tactic(auto)]
 
 ghost use Rattle.std.specs.Prelude.{◌≡◌};
-ghost use Rattle.response.specs.Response.{response_answer, numbers_of};
+ghost use Rattle.response.specs.Response.{numbers_of, response_answer};
+ghost use Rattle.response.specs.declared.Refusal.TheVariants.{Register, Wall};
 
 use ids::FolderNo;
+use register::RegisterFault;
 
-#[derive(Clone, Copy)]
-pub enum Response {
-    // 0, with how many write rights were taken back; 0 where the grant is not carried out yet
-    Granted(u16),
-    // 1: P or F beyond its range, or lists of unequal length
-    OutOfRange,
-    // 2: exactly one of class and client is 0
-    LoneZero(FolderNo),
-    // 3: a client has two classes; the first folder that differs from an earlier one of its client, and the first such earlier one
-    TwoClasses(FolderNo, FolderNo),
+// A refusal by the wall, with the folder that it names: the refusals that are logged.
+#[derive(Clone, Copy, PartialEq, Eq)]
+pub enum WallRefusal {
+    // 20: a rival exists
+    Rival(FolderNo),
+    // 21: kind 3 or 4, and a foreign folder exists
+    Foreign(FolderNo),
+    // 22: kind 2, and a folder is at stake
+    AtStake(FolderNo),
+}
+
+// Why a request is refused; the register check's and the wall's refusals are enums of their own.
+#[derive(Clone, Copy, PartialEq, Eq)]
+pub enum Refusal {
+    // 1, 2, 3 or 11: the register check's
+    Register(RegisterFault),
     // 4: the matrix's length is not P times F
     MatrixLength,
     // 5: login is P or more
@@ -30,21 +38,34 @@ pub enum Response {
     BadEnd,
     // 10: the person list's length is not P, or an entry is P or more
     BadPersons,
-    // 11: the pairs' lists are of unequal length or have over 256 pairs, or a pair names client 0 or one client twice
-    BadPairs,
-    // 20: a rival exists
-    Rival(FolderNo),
-    // 21: kind 3 or 4, and a foreign folder exists
-    Foreign(FolderNo),
-    // 22: kind 2, and a folder is at stake
-    AtStake(FolderNo),
+    // 20, 21 or 22: the wall's
+    Wall(WallRefusal),
     // 30: the record is longer than the room left
     NoRoom,
 }
 
+// What a request is answered: 0 with how many write rights were taken back (0 where the grant is not carried out yet), or why it is refused.
+pub type Response = Result<u16, Refusal>;
+
+impl From<RegisterFault> for Refusal {
+    ghost from_gives = { λ fault r. r ≡ Register fault };
+
+    fn from(fault: RegisterFault) -> Refusal {
+        Refusal::Register(fault)
+    }
+}
+
+impl From<WallRefusal> for Refusal {
+    ghost from_gives = { λ refusal r. r ≡ Wall refusal };
+
+    fn from(refusal: WallRefusal) -> Refusal {
+        Refusal::Wall(refusal)
+    }
+}
+
 // A response in numbers: document 01's number, the folders that it carries, and how many write rights a grant took back. What it does
 // not carry is 0.
-#[derive(Clone, Copy)]
+#[derive(Clone, Copy, PartialEq, Eq)]
 pub struct Numbers {
     pub number: u16,
     pub first: u16,
@@ -59,7 +80,7 @@ fn granted(count: u16) -> Numbers
         number: 0,
         first: 0,
         second: 0,
-        count: count,
+        count,
     }
 }
 
@@ -67,33 +88,35 @@ fn refused(number: u16, first: u16, second: u16) -> Numbers
     ensures { result ≡ record { number = number; first = first; second = second; count = 0 } }
 {
     Numbers {
-        number: number,
-        first: first,
-        second: second,
+        number,
+        first,
+        second,
         count: 0,
     }
 }
 
 // Document 01's number and values of a response.
-pub fn in_numbers(response: Response) -> Numbers
-    ensures { result ≡ numbers_of (response_answer response) }
-{
-    match response {
-        Response::Granted(count) => granted(count),
-        Response::OutOfRange => refused(1, 0, 0),
-        Response::LoneZero(f) => refused(2, f.0, 0),
-        Response::TwoClasses(f, g) => refused(3, f.0, g.0),
-        Response::MatrixLength => refused(4, 0, 0),
-        Response::UnknownLogin => refused(5, 0, 0),
-        Response::UnknownFolder => refused(6, 0, 0),
-        Response::UnknownKind => refused(7, 0, 0),
-        Response::BadCell(f) => refused(8, f.0, 0),
-        Response::BadEnd => refused(9, 0, 0),
-        Response::BadPersons => refused(10, 0, 0),
-        Response::BadPairs => refused(11, 0, 0),
-        Response::Rival(f) => refused(20, f.0, 0),
-        Response::Foreign(f) => refused(21, f.0, 0),
-        Response::AtStake(f) => refused(22, f.0, 0),
-        Response::NoRoom => refused(30, 0, 0),
+impl From<Response> for Numbers {
+    ghost from_gives = { λ response n. n ≡ numbers_of (response_answer response) };
+
+    fn from(response: Response) -> Numbers {
+        match response {
+            Ok(count) => granted(count),
+            Err(Refusal::Register(RegisterFault::OutOfRange)) => refused(1, 0, 0),
+            Err(Refusal::Register(RegisterFault::LoneZero(f))) => refused(2, f.0, 0),
+            Err(Refusal::Register(RegisterFault::TwoClasses(f, g))) => refused(3, f.0, g.0),
+            Err(Refusal::Register(RegisterFault::BadPairs)) => refused(11, 0, 0),
+            Err(Refusal::MatrixLength) => refused(4, 0, 0),
+            Err(Refusal::UnknownLogin) => refused(5, 0, 0),
+            Err(Refusal::UnknownFolder) => refused(6, 0, 0),
+            Err(Refusal::UnknownKind) => refused(7, 0, 0),
+            Err(Refusal::BadCell(f)) => refused(8, f.0, 0),
+            Err(Refusal::BadEnd) => refused(9, 0, 0),
+            Err(Refusal::BadPersons) => refused(10, 0, 0),
+            Err(Refusal::Wall(WallRefusal::Rival(f))) => refused(20, f.0, 0),
+            Err(Refusal::Wall(WallRefusal::Foreign(f))) => refused(21, f.0, 0),
+            Err(Refusal::Wall(WallRefusal::AtStake(f))) => refused(22, f.0, 0),
+            Err(Refusal::NoRoom) => refused(30, 0, 0),
+        }
     }
 }

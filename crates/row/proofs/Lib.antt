@@ -2,5 +2,5 @@
 pub mod Fitting
 -- For the proofs of this crate and of `row_lost`:
 pub mod Cut
--- For the proof of the walk `least`:
-pub mod Least
+-- For the proofs of the searches:
+pub mod Found

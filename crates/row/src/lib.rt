@@ -1,175 +1,126 @@
 // What the wall says of a request, on the row of the person of the login that asks, and whether a grant takes write rights back (document 01, 'The
-// four kinds of request'; document 02, C-12 and C-14). The row is given by the matrix and its start; its folders are those of the classes' list.
-// Rows, lists and folders of any places, lengths and numbers may be given; whether they fit is asked before any walk. Kind and cells are judged by
-// the caller. A grant tells nothing as taken back: it is not carried out yet.
+// four kinds of request'; document 02, C-12 and C-14). The row's folders are those of the classes' list. Rows, lists and folders of any places, lengths
+// and numbers may be given; whether they fit is asked before any walk. Kind and cells are judged by the caller. A grant tells nothing as taken back: it
+// is not carried out yet.
 #![tactic(auto)]
 
-ghost use Rattle.std.specs.Prelude.{ℕ, ◌≤◌, ◌≡◌, true, false, List, length};
+ghost use Rattle.std.specs.Prelude.{ℕ, ◌≡◌, true, false, List, length, ltb};
 ghost use Rattle.vocabulary.specs.Those.{some};
-ghost use Rattle.vocabulary.specs.Place.{row_in, lent_row};
 ghost use Rattle.register.specs.Register.{register_by};
-ghost use Rattle.register.specs.Lent.{lent_clients, lent_folders, lent_folders_by};
-ghost use Rattle.policy.specs.Rules.{writes};
-ghost use Rattle.row_labels.specs.Cut.{Alongside};
-ghost use Rattle.row_marks.specs.Opposed.{first_opposer};
+ghost use Rattle.register.specs.Lent.{labels_lent};
+ghost use Rattle.cell_rules.specs.Cut.{is_foreign, is_at_stake};
+ghost use Rattle.row_labels.specs.Lent.{row_beside};
 ghost use Rattle.response.specs.Response.{response_answer};
-ghost use Rattle.row.specs.Cut.{ruled_past};
+ghost use Rattle.row.specs.Cut.{all_in, first_found, opposers_in, wall_by, wall_answered};
 ghost use Rattle.row.specs.Row.{row_answer, ruled, lost_on};
 
-use cell_rules::Sort;
+use cells::Row;
 use ids::{FolderNo, Label};
-use response::Response;
+use register::{Labels, Pairs, RegisterFault};
+use response::{Refusal, Response, WallRefusal};
+use row_labels::LabelledRow;
 
 mod walks; // the searches through a row
 
-// Row 21 of the table, for a kind that enters a write right, where there is no rival.
-fn rule_write(matrix: &[u8], start: usize, classes: &[u16], clients: &[u16], o: Label) -> Response
-    requires { Alongside (row_in matrix start classes) classes.now clients.now × (length classes.now ≤ 512) }
-    ensures { (kind : ℕ) → writes kind ≡ true → response_answer result ≡ ruled_past (length classes.now) (lent_row matrix start classes) classes.now clients.now o kind }
+// Whether the classes' list has the folder.
+fn has(labels: Labels, folder: FolderNo) -> bool
+    ensures { result ≡ ltb folder.0 (length labels.entry.classes.now) }
 {
-    let foreign = walks::find(Sort::Foreign, matrix, start, classes, clients, o);
-    if foreign < classes.len() {
-        return Response::Foreign(walks::folder_no(foreign));
-    }
-    Response::Granted(0)
+    usize::from(folder.0) < labels.classes.len()
 }
 
-// Row 22 of the table, for a kind that enters no write right, where there is no rival.
-fn rule_read(
-    matrix: &[u8],
-    start: usize,
-    classes: &[u16],
-    clients: &[u16],
+// The rows of the table that the wall speaks by, 20 to 22: the first rival is given, the others are sought where the kind asks for them. It is compiled
+// into both decisions: a call would hand over the row and its labels in memory.
+#[inline(always)]
+fn rule(
+    rival: Option<FolderNo>,
+    folders: LabelledRow,
     o: Label,
     kind: u16,
-) -> Response
-    requires { Alongside (row_in matrix start classes) classes.now clients.now × (length classes.now ≤ 512) × (writes kind ≡ false) }
-    ensures { response_answer result ≡ ruled_past (length classes.now) (lent_row matrix start classes) classes.now clients.now o kind }
+) -> Result<(), WallRefusal>
+    ensures { (rivals : List ℕ) → rival ≡ first_found rivals → wall_answered result ≡ wall_by rivals (all_in is_foreign folders o) (all_in is_at_stake folders o) kind }
 {
-    if kind == 2 {
-        let stake = walks::find(Sort::AtStake, matrix, start, classes, clients, o);
-        if stake < classes.len() {
-            return Response::AtStake(walks::folder_no(stake));
-        }
+    if let Some(f) = rival {
+        return Err(WallRefusal::Rival(f));
     }
-    Response::Granted(0)
+    if kinds::writes(kind) {
+        return match walks::find(cell_rules::is_foreign, folders, o) {
+            Some(f) => Err(WallRefusal::Foreign(f)),
+            None => Ok(()),
+        };
+    }
+    if kind == 2 {
+        return match walks::find(cell_rules::is_at_stake, folders, o) {
+            Some(f) => Err(WallRefusal::AtStake(f)),
+            None => Ok(()),
+        };
+    }
+    Ok(())
 }
 
 // What the person whose row this is gets for a request of this folder and kind, by classes; whatever pairs came with the register are not looked at.
-pub fn decide_by_classes(
-    matrix: &[u8],
-    start: usize,
-    classes: &[u16],
-    clients: &[u16],
-    folder: FolderNo,
-    kind: u16,
-) -> Response
-    ensures { (firsts seconds : List ℕ) → response_answer result ≡ ruled (row_answer (register_by 0 classes.now clients.now false firsts seconds) (lent_row matrix start classes) folder.0 kind) }
+pub fn decide_by_classes(row: Row, labels: Labels, folder: FolderNo, kind: u16) -> Response
+    ensures { (firsts seconds : List ℕ) → response_answer result ≡ ruled (row_answer (register_by 0 labels.entry.classes.now labels.entry.clients.now false firsts seconds) (row_beside row labels) folder.0 kind) }
 {
-    if !row_labels::lists_fit(matrix, start, classes, clients) {
-        return Response::OutOfRange;
+    let Some(folders) = row_labels::fit(row, labels) else {
+        return Err(Refusal::Register(RegisterFault::OutOfRange));
+    };
+    if !has(labels, folder) {
+        return Err(Refusal::UnknownFolder);
     }
-    if classes.len() <= folder.0 as usize {
-        return Response::UnknownFolder;
-    }
-    let o = row_labels::label_of(classes, clients, folder);
-    let rival = walks::find(Sort::Rival, matrix, start, classes, clients, o);
-    if rival < classes.len() {
-        return Response::Rival(walks::folder_no(rival));
-    }
-    if kinds::writes(kind) {
-        return rule_write(matrix, start, classes, clients, o);
-    }
-    rule_read(matrix, start, classes, clients, o, kind)
+    let o = row_labels::label_of(labels, folder);
+    let rival = walks::find(cell_rules::is_rival, folders, o);
+    rule(rival, folders, o, kind)?;
+    Ok(0)
 }
 
-// By pairs, the rows 20 and 21 of a kind that enters a write right, and 20 and 22 of one that enters none. Each asks for the first rival itself: a
-// search that is called from two places is compiled apart from the request, which by classes is then as quick as without it.
-fn write_by_pairs(
-    matrix: &[u8],
-    start: usize,
-    classes: &[u16],
-    clients: &[u16],
-    firsts: &[u16],
-    seconds: &[u16],
-    o: Label,
-) -> Response
-    requires { Alongside (row_in matrix start classes) classes.now clients.now × (length classes.now ≤ 512) }
-    ensures { (kind : ℕ) → writes kind ≡ true → response_answer result ≡ ruled_past (first_opposer (lent_clients clients firsts seconds) (lent_row matrix start classes) o.client.0) (lent_row matrix start classes) classes.now clients.now o kind }
+// By pairs, the first rival.
+fn first_opposer(folders: LabelledRow, pairs: Pairs, o: Label) -> Option<FolderNo>
+    ensures { result ≡ first_found (opposers_in folders pairs o) }
 {
-    let client = o.client;
-    let opposer = row_pairs::first_opposer(matrix, start, clients, firsts, seconds, client);
-    if opposer < classes.len() {
-        return Response::Rival(walks::folder_no(opposer));
+    let LabelledRow { row, labels } = folders;
+    let first = row_pairs::first_opposer(row, labels.clients, pairs, o.client);
+    if first < labels.clients.len() {
+        return Some(FolderNo(first as u16));
     }
-    rule_write(matrix, start, classes, clients, o)
-}
-
-fn read_by_pairs(
-    matrix: &[u8],
-    start: usize,
-    classes: &[u16],
-    clients: &[u16],
-    firsts: &[u16],
-    seconds: &[u16],
-    o: Label,
-    kind: u16,
-) -> Response
-    requires { Alongside (row_in matrix start classes) classes.now clients.now × (length classes.now ≤ 512) × (writes kind ≡ false) }
-    ensures { response_answer result ≡ ruled_past (first_opposer (lent_clients clients firsts seconds) (lent_row matrix start classes) o.client.0) (lent_row matrix start classes) classes.now clients.now o kind }
-{
-    let client = o.client;
-    let opposer = row_pairs::first_opposer(matrix, start, clients, firsts, seconds, client);
-    if opposer < classes.len() {
-        return Response::Rival(walks::folder_no(opposer));
-    }
-    rule_read(matrix, start, classes, clients, o, kind)
+    None
 }
 
 // What the person whose row this is gets for a request of this folder and kind, by pairs.
 pub fn decide_by_pairs(
-    matrix: &[u8],
-    start: usize,
-    classes: &[u16],
-    clients: &[u16],
-    firsts: &[u16],
-    seconds: &[u16],
+    row: Row,
+    labels: Labels,
+    pairs: Pairs,
     folder: FolderNo,
     kind: u16,
 ) -> Response
-    ensures { response_answer result ≡ ruled (row_answer (lent_folders_by classes clients true firsts seconds) (lent_row matrix start classes) folder.0 kind) }
+    ensures { response_answer result ≡ ruled (row_answer (register_by 0 labels.entry.classes.now labels.entry.clients.now true pairs.entry.firsts.now pairs.entry.seconds.now) (row_beside row labels) folder.0 kind) }
 {
-    if !row_labels::lists_fit(matrix, start, classes, clients) {
-        return Response::OutOfRange;
+    let Some(folders) = row_labels::fit(row, labels) else {
+        return Err(Refusal::Register(RegisterFault::OutOfRange));
+    };
+    if !register_pairs::pairs_fit(pairs) {
+        return Err(Refusal::Register(RegisterFault::BadPairs));
     }
-    if !register_pairs::pairs_fit(firsts, seconds) {
-        return Response::BadPairs;
+    if !has(labels, folder) {
+        return Err(Refusal::UnknownFolder);
     }
-    let folders = classes.len();
-    if folders <= folder.0 as usize {
-        return Response::UnknownFolder;
-    }
-    let o = row_labels::label_of(classes, clients, folder);
-    if kinds::writes(kind) {
-        return write_by_pairs(matrix, start, classes, clients, firsts, seconds, o);
-    }
-    read_by_pairs(matrix, start, classes, clients, firsts, seconds, o, kind)
+    let o = row_labels::label_of(labels, folder);
+    let rival = first_opposer(folders, pairs, o);
+    rule(rival, folders, o, kind)?;
+    Ok(0)
 }
 
 // Whether any folder loses its write right on a grant.
-pub fn any_lost(
-    matrix: &[u8],
-    start: usize,
-    classes: &[u16],
-    clients: &[u16],
-    folder: FolderNo,
-    kind: u16,
-) -> bool
-    ensures { result ≡ some (lost_on (lent_folders classes clients) (lent_row matrix start classes) folder.0 kind) }
+pub fn any_lost(row: Row, labels: Labels, folder: FolderNo, kind: u16) -> bool
+    ensures { result ≡ some (lost_on (labels_lent labels) (row_beside row labels) folder.0 kind) }
 {
-    if row_labels::fits(matrix, start, classes, clients, folder) & kinds::revokes(kind) {
-        let o = row_labels::label_of(classes, clients, folder);
-        return walks::exists(Sort::AtStake, matrix, start, classes, clients, o);
+    let Some(folders) = row_labels::fit(row, labels) else {
+        return false;
+    };
+    if !has(labels, folder) {
+        return false;
     }
-    false
+    let o = row_labels::label_of(labels, folder);
+    kinds::revokes(kind) && walks::any(cell_rules::is_at_stake, folders, o)
 }

@@ -1,75 +1,50 @@
-// The searches through a row and the two lists beside it. Each walk keeps a running place in the matrix, one more at each folder.
-ghost use Rattle.std.specs.Prelude.{◌≤◌, min, ◌≡◌, cond, length};
+// The searches through a row and the labels beside it. What a search looks for is a test of a folder's cell and label, beside the label asked for. Each
+// walk keeps a running place in the matrix, one more at each folder.
+ghost use Rattle.std.specs.Prelude.{◌≡◌, cond};
 ghost use Rattle.vocabulary.specs.Those.{some};
-ghost use Rattle.vocabulary.specs.Place.{row_in, lent_row};
-ghost use Rattle.row_labels.specs.Cut.{Alongside};
-ghost use Rattle.row.specs.Cut.{all_of, first_of};
+ghost use Rattle.row.specs.Cut.{Test, Tells, all_in, first_found};
 
-use cell_rules::Sort;
 use ids::{ClassNo, ClientNo, FolderNo, Label};
+use row_labels::LabelledRow;
 
-// A folder that a search found, as a folder's number.
-pub(crate) fn folder_no(found: usize) -> FolderNo
-    requires { found ≤ 512 }
-    ensures { result.0 ≡ found }
+// Whether the row has a folder that passes the test: what the walk has seen so far. It passes over every folder, without a branch, so that it can go
+// over several at a time.
+pub(crate) fn any<F: Fn(u8, Label, Label) -> bool>(test: F, folders: LabelledRow, o: Label) -> bool
+    requires { F.IsAlwaysCallable test }
+    ensures { (p : Test) → Tells (F.post test) p → result ≡ some (all_in p folders o) }
 {
-    FolderNo(found as u16)
-}
-
-// Whether the row has a folder of the sort looked for: what the walk has seen so far. It passes over every folder, without a branch, so
-// that it can go over several at a time.
-fn any(sort: Sort, matrix: &[u8], start: usize, classes: &[u16], clients: &[u16], o: Label) -> bool
-    requires { Alongside (row_in matrix start classes) classes.now clients.now }
-    ensures { result ≡ some (all_of sort (lent_row matrix start classes) classes.now clients.now o) }
-{
+    let LabelledRow { row, labels } = folders;
     let mut seen = false;
-    let mut place = start;
-    let mut f = 0;
-    while f < classes.len() {
-        let cell = matrix[place];
-        let class = classes[f];
-        let client = clients[f];
-        let label = ids::labelled(ClassNo(class), ClientNo(client));
-        seen = seen | cell_rules::of_sort(sort, cell, label, o);
+    let mut place = row.start;
+    for f in 0..labels.classes.len() {
+        let cell = row.matrix[place];
+        let label = Label::new(ClassNo(labels.classes[f]), ClientNo(labels.clients[f]));
+        seen |= test(cell, label, o);
         place += 1;
-        f += 1;
     }
     seen
 }
 
-// The first folder of the sort looked for, or the row's length. What the walk has passed has none.
-fn first(
-    sort: Sort,
-    matrix: &[u8],
-    start: usize,
-    classes: &[u16],
-    clients: &[u16],
+// The first folder that passes the test. What the walk has passed has none.
+fn first<F: Fn(u8, Label, Label) -> bool>(
+    test: F,
+    folders: LabelledRow,
     o: Label,
-) -> usize
-    requires { Alongside (row_in matrix start classes) classes.now clients.now }
-    ensures { result ≡ first_of sort (lent_row matrix start classes) classes.now clients.now o }
+) -> Option<FolderNo>
+    requires { F.IsAlwaysCallable test }
+    ensures { (p : Test) → Tells (F.post test) p → result ≡ first_found (all_in p folders o) }
 {
-    let mut place = start;
-    let mut f = 0;
-    while f < classes.len() {
-        let cell = matrix[place];
-        let class = classes[f];
-        let client = clients[f];
-        let label = ids::labelled(ClassNo(class), ClientNo(client));
-        if cell_rules::of_sort(sort, cell, label, o) {
-            return f;
+    let LabelledRow { row, labels } = folders;
+    let mut place = row.start;
+    for f in 0..labels.classes.len() {
+        let cell = row.matrix[place];
+        let label = Label::new(ClassNo(labels.classes[f]), ClientNo(labels.clients[f]));
+        if test(cell, label, o) {
+            return Some(FolderNo(f as u16));
         }
         place += 1;
-        f += 1;
     }
-    f
-}
-
-// The smaller of two numbers.
-fn smaller(a: u16, b: u16) -> u16
-    ensures { result ≡ min a b }
-{
-    if b < a { b } else { a }
+    None
 }
 
 // A number where a test holds, else another.
@@ -80,72 +55,48 @@ fn choose(test: bool, one: u16, other: u16) -> u16
 }
 
 // The same as `first`: the smallest that the walk has met. Without a branch and in 16 bits, so that it goes over several folders at a time.
-fn least(
-    sort: Sort,
-    matrix: &[u8],
-    start: usize,
-    classes: &[u16],
-    clients: &[u16],
+fn least<F: Fn(u8, Label, Label) -> bool>(
+    test: F,
+    folders: LabelledRow,
     o: Label,
-) -> usize
-    requires { Alongside (row_in matrix start classes) classes.now clients.now × (length classes.now ≤ 512) }
-    ensures { result ≡ first_of sort (lent_row matrix start classes) classes.now clients.now o }
+) -> Option<FolderNo>
+    requires { F.IsAlwaysCallable test }
+    ensures { (p : Test) → Tells (F.post test) p → result ≡ first_found (all_in p folders o) }
 {
-    let none = classes.len() as u16;
+    let LabelledRow { row, labels } = folders;
+    let none = labels.classes.len() as u16;
     let mut least = none;
-    let mut place = start;
-    let mut f = 0;
-    while f < classes.len() {
-        let cell = matrix[place];
-        let class = classes[f];
-        let client = clients[f];
-        let label = ids::labelled(ClassNo(class), ClientNo(client));
-        let found = cell_rules::of_sort(sort, cell, label, o);
-        least = smaller(least, choose(found, f as u16, none));
+    let mut place = row.start;
+    for f in 0..none {
+        let i = usize::from(f);
+        let cell = row.matrix[place];
+        let label = Label::new(ClassNo(labels.classes[i]), ClientNo(labels.clients[i]));
+        let found = test(cell, label, o);
+        least = least.min(choose(found, f, none));
         place += 1;
-        f += 1;
     }
-    least as usize
+    if least < none {
+        return Some(FolderNo(least));
+    }
+    None
 }
 
-// Whether the row has a folder of the sort looked for. Among few it is quicker to seek one, as in `find`.
-pub(crate) fn exists(
-    sort: Sort,
-    matrix: &[u8],
-    start: usize,
-    classes: &[u16],
-    clients: &[u16],
+// The first folder that passes the test. Among few it is quickest to seek it at once. With some more the least is quicker: it has no branch to foretell.
+// Mostly there is none, and over many folders a look that says so comes first.
+pub(crate) fn find<F: Fn(u8, Label, Label) -> bool + Copy>(
+    test: F,
+    folders: LabelledRow,
     o: Label,
-) -> bool
-    requires { Alongside (row_in matrix start classes) classes.now clients.now }
-    ensures { result ≡ some (all_of sort (lent_row matrix start classes) classes.now clients.now o) }
+) -> Option<FolderNo>
+    requires { F.IsAlwaysCallable test }
+    ensures { (p : Test) → Tells (F.post test) p → result ≡ first_found (all_in p folders o) }
 {
-    if classes.len() < 16 {
-        return first(sort, matrix, start, classes, clients, o) < classes.len();
+    let n = folders.labels.classes.len();
+    if n < 16 {
+        return first(test, folders, o);
     }
-    any(sort, matrix, start, classes, clients, o)
-}
-
-// The first folder of the sort looked for, or the row's length. Among few it is quickest to seek it at once. With some more the least is quicker: it has
-// no branch to foretell. Mostly there is none, and over many folders a look that says so comes first.
-pub(crate) fn find(
-    sort: Sort,
-    matrix: &[u8],
-    start: usize,
-    classes: &[u16],
-    clients: &[u16],
-    o: Label,
-) -> usize
-    requires { Alongside (row_in matrix start classes) classes.now clients.now × (length classes.now ≤ 512) }
-    ensures { result ≡ first_of sort (lent_row matrix start classes) classes.now clients.now o }
-{
-    if 16 <= classes.len() {
-        if 32 <= classes.len() {
-            if !any(sort, matrix, start, classes, clients, o) {
-                return classes.len();
-            }
-        }
-        return least(sort, matrix, start, classes, clients, o);
+    if 32 <= n && !any(test, folders, o) {
+        return None;
     }
-    first(sort, matrix, start, classes, clients, o)
+    least(test, folders, o)
 }

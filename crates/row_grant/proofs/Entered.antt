@@ -28,7 +28,7 @@ use Rattle.row_grant.proofs.Granted.{row_granted-fits}
 -- ---- one cell
 
 -- A cell with the label asked for is not at stake.
-pub own-asked : (c : ℕ) (o : Label) (kind : ℕ) → cell_left c o o true kind ≡ cell_with c kind
+own-asked : (c : ℕ) (o : Label) (kind : ℕ) → cell_left c o o true kind ≡ cell_with c kind
 own-asked c o kind = simp (eqb-self, and-false, and-true)
 
 own-taken : (c : ℕ) (o : Label) (kind : ℕ) → cell_left c o o false kind ≡ cell_for (can_read c) (can_write c)

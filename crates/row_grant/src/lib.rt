@@ -6,36 +6,34 @@
 ghost use Rattle.std.specs.Prelude.{◌+◌, ◌≡◌, length};
 ghost use Rattle.vocabulary.specs.Each.{each};
 ghost use Rattle.vocabulary.specs.Place.{row_at, with_row_at};
-ghost use Rattle.register.specs.Lent.{lent_folders};
+ghost use Rattle.register.specs.Lent.{labels_lent};
 ghost use Rattle.row_labels.specs.Cut.{Alongside};
 ghost use Rattle.row_grant.specs.Granted.{row_granted, cell_with, cell_entered};
 ghost use Rattle.row_grant.specs.Cut.{taken_at};
 
+use cells::Row;
 use ids::{ClassNo, ClientNo, FolderNo, Label};
+use register::Labels;
 
 // The cell with the rights that a kind asks for.
 fn cell_with(cell: u8, kind: u16) -> u8
     ensures { result ≡ cell_with cell kind }
 {
-    let label = ids::labelled(ClassNo(0), ClientNo(0));
+    let label = Label::new(ClassNo(0), ClientNo(0));
     cell_rules::cell_left(cell, label, label, true, kind)
 }
 
-// Takes the write rights at stake back, if the kind does. What the walk has passed is changed, the rest is as it was.
-fn take_back(matrix: &mut [u8], start: usize, classes: &[u16], clients: &[u16], o: Label, kind: u16)
-    requires { Alongside (row_at matrix.old start (length classes.now)) classes.now clients.now }
-    ensures { matrix.new ≡ with_row_at matrix.old start (length classes.now) (each (taken_at classes.now clients.now o kind) (row_at matrix.old start (length classes.now))) }
+// Takes the write rights at stake back, if the kind does. What the walk has passed is changed, the rest is as it was. The walk keeps a running place
+// in the matrix, one more at each folder.
+fn take_back(matrix: &mut [u8], start: usize, labels: Labels, o: Label, kind: u16)
+    requires { Alongside (row_at matrix.old start (length labels.classes.now)) labels.classes.now labels.clients.now }
+    ensures { matrix.new ≡ with_row_at matrix.old start (length labels.entry.classes.now) (each (taken_at labels.entry.classes.now labels.entry.clients.now o kind) (row_at matrix.old start (length labels.entry.classes.now))) }
 {
     let mut place = start;
-    let mut f = 0;
-    while f < classes.len() {
-        let cell = matrix[place];
-        let class = classes[f];
-        let client = clients[f];
-        let label = ids::labelled(ClassNo(class), ClientNo(client));
-        matrix[place] = cell_rules::cell_left(cell, label, o, false, kind);
+    for f in 0..labels.classes.len() {
+        let label = Label::new(ClassNo(labels.classes[f]), ClientNo(labels.clients[f]));
+        matrix[place] = cell_rules::cell_left(matrix[place], label, o, false, kind);
         place += 1;
-        f += 1;
     }
 }
 
@@ -43,30 +41,30 @@ fn take_back(matrix: &mut [u8], start: usize, classes: &[u16], clients: &[u16], 
 pub fn enter(matrix: &mut [u8], start: usize, folder: FolderNo, kind: u16)
     ensures { matrix.new ≡ cell_entered matrix.old (start + folder.0) kind }
 {
-    let f = folder.0 as usize;
-    if cells::remaining(matrix, start) <= f {
+    let f = usize::from(folder.0);
+    let row = Row {
+        matrix: &*matrix,
+        start,
+    };
+    if row.remaining() <= f {
         return;
     }
     let place = start + f;
-    let cell = matrix[place];
-    matrix[place] = cell_with(cell, kind);
+    matrix[place] = cell_with(matrix[place], kind);
 }
 
 // Changes a row as a grant does.
-pub fn grant(
-    matrix: &mut [u8],
-    start: usize,
-    classes: &[u16],
-    clients: &[u16],
-    folder: FolderNo,
-    kind: u16,
-)
-    ensures { matrix.new ≡ with_row_at matrix.old start (length classes.now) (row_granted (lent_folders classes clients) (row_at matrix.old start (length classes.now)) folder.0 kind) }
+pub fn grant(matrix: &mut [u8], start: usize, labels: Labels, folder: FolderNo, kind: u16)
+    ensures { matrix.new ≡ with_row_at matrix.old start (length labels.entry.classes.now) (row_granted (labels_lent labels) (row_at matrix.old start (length labels.entry.classes.now)) folder.0 kind) }
 {
-    if !row_labels::fits(matrix, start, classes, clients, folder) {
+    let row = Row {
+        matrix: &*matrix,
+        start,
+    };
+    if !row_labels::fits(row, labels, folder) {
         return;
     }
-    let o = row_labels::label_of(classes, clients, folder);
-    take_back(matrix, start, classes, clients, o, kind);
+    let o = row_labels::label_of(labels, folder);
+    take_back(matrix, start, labels, o, kind);
     enter(matrix, start, folder, kind);
 }

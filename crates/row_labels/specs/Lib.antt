@@ -1,5 +1,6 @@
 -- Comments cite document 01 by its sections; docs/RULES.md says it in words, under the same headings.
 -- The rules:
 pub mod Fitting
+pub mod Lent
 -- Internal:
 pub mod Cut

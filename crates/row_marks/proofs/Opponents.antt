@@ -4,29 +4,33 @@ use mathlib.Core.Path.{◌≡◌, refl, ap, ◌∙◌}
 use mathlib.Core.Bool.{Bool, true, false, ◌&&◌, ◌||◌, and-true, and-false, or-false, or_self}
 use mathlib.Core.List.{List, []}
 use native.Mathlib.Omega.{arith}
-use native.Mathlib.Decide.{ℕ_discrete, dec_lt}
+use native.Mathlib.Decide.{ℕ_discrete}
 use lib.Dec.{eqb, leb}
-use lib.ListN.{length, get_or, set, replicate, length-set, length-replicate}
+use lib.ListN.{length, get_or, set, replicate}
 use lib.Seq.{get_or-set_same, get_or-set_other}
-use mir.Val.{bool_byte}
 use borrow.Author.Tests.{eqb-true, leb-true}
-use Rattle.vocabulary.specs.Those.{some}
+use Rattle.vocabulary.specs.Those.{those, some}
 use Rattle.vocabulary.proofs.Those.{those-agree}
-use Rattle.vocabulary.proofs.Bools.{both, bool_byte-most, bool_byte-tells}
+use Rattle.vocabulary.proofs.Bools.{both}
 use Rattle.register.specs.Register.{Register, register_by, pairs, client_of}
 use Rattle.policy.specs.Conflict.{pair_names, paired}
 use Rattle.register_pairs.specs.Pair.{names_client, other_client, pairs_fit}
-use Rattle.row_marks.specs.Marks.{Listed, Flags, Added, Marked, wanted_at, fitted, read_marked, first_read}
+use Rattle.row_marks.specs.declared.client_set.ClientSet.{ClientSet}
+use Rattle.row_marks.specs.declared.fitting.ClientRow.{ClientRow}
+use Rattle.row_marks.specs.declared.fitting.FewPairs.{FewPairs}
+use Rattle.row_marks.specs.declared.marking.Listing.{Listing}
+use Rattle.row_marks.specs.Marks.{marked, Listed, wanted_at, opponent, fitted}
+use Rattle.row_marks.specs.Walk.{cells_of, readable_marked}
 use Rattle.row_marks.specs.Opposed.{opposed, opposers, first_opposer}
-use Rattle.row_marks.proofs.Marks.{zeros}
+use Rattle.row_marks.proofs.Marks.{replicate-all}
 use Rattle.row_marks.proofs.Quarters.{some-those-upto}
 
 -- A list that is filled from its start has one entry more.
-filled : (f : ℕ → ℕ) (l : List ℕ) (n : ℕ) → n < length l → ((i : ℕ) → i < n → get_or l i 0 ≡ f i) → (i : ℕ) → i < n + 1 → get_or (set l n (f n)) i 0 ≡ f i
-filled f l n room h i g =
+filled : {A : Type 0} (f : ℕ → A) (l : List A) (d : A) (n : ℕ) → n < length l → ((i : ℕ) → i < n → get_or l i d ≡ f i) → (i : ℕ) → i < n + 1 → get_or (set l n (f n)) i d ≡ f i
+filled f l d n room h i g =
     elim (ℕ_discrete i n) [
-      | yes e ↦ rw (e, get_or-set_same l n (f n) 0 room)
-      | no d ↦ get_or-set_other l n i (f n) 0 d ∙ h i (omega arith)
+      | yes e ↦ rw (e, get_or-set_same l n (f n) d room)
+      | no d' ↦ get_or-set_other l n i (f n) d d' ∙ h i (omega arith)
     ]
 
 -- Of a pair that names c, the other client is the one that it names beside c; one that does not names nobody beside it.
@@ -39,56 +43,45 @@ named-between a b c x = at (eqb a c) (eqb b c) refl refl
     at false true e f = rw (e, f, and-true, or-false)
     at false false e f = rw (e, f, and-false)
 
--- No pair is listed yet.
-pub listed-none : (firsts seconds : List ℕ) (c : ℕ) → Listed firsts seconds c (replicate 256 0) (replicate 256 0) 0
-listed-none firsts seconds c =
-    record {
-      others-long = length-replicate {A = ℕ} 256 0;
-      wanted-long = length-replicate {A = ℕ} 256 0;
-      clients = λ i h. absurd (omega arith);
-      flags = λ i h. absurd (omega arith);
-      rest = λ i h. zeros 256 i;
-    }
+module _ (p : FewPairs) (c : ℕ) where
+  abbrev first : ℕ → ℕ
+  first i = get_or p.lists.firsts.now i 0
 
--- One pair more is listed.
-pub listed_more :
-    (firsts seconds : List ℕ) (c : ℕ) (others wanted : List ℕ) (n : ℕ) → n < 256 → Listed firsts seconds c others wanted n →
-    Listed firsts seconds c (set others n (other_client (get_or firsts n 0) (get_or seconds n 0) c)) (set wanted n (bool_byte (names_client (get_or firsts n 0) (get_or seconds n 0) c))) (n + 1)
-listed_more firsts seconds c others wanted n room l =
-    record {
-      others-long = length-set others n (other_client (get_or firsts n 0) (get_or seconds n 0) c) ∙ l.others-long;
-      wanted-long = length-set wanted n (bool_byte (names_client (get_or firsts n 0) (get_or seconds n 0) c)) ∙ l.wanted-long;
-      clients = filled (λ i. other_client (get_or firsts i 0) (get_or seconds i 0) c) others n (omega (arith, l.others-long)) l.clients;
-      flags = filled (λ i. bool_byte (names_client (get_or firsts i 0) (get_or seconds i 0) c)) wanted n (omega (arith, l.wanted-long)) l.flags;
-      rest = λ i h. get_or-set_other wanted n i _ 0 (λ e. omega arith) ∙ l.rest i (omega arith);
-    }
+  abbrev second : ℕ → ℕ
+  second i = get_or p.lists.seconds.now i 0
 
--- What is listed beside the clients is 0 or 1.
-pub listed-flags : (firsts seconds : List ℕ) (c : ℕ) (others wanted : List ℕ) (n : ℕ) → Listed firsts seconds c others wanted n → Flags wanted
-listed-flags firsts seconds c others wanted n l i =
-    elim (dec_lt i n) [
-      | yes h ↦ rw (l.flags i h) (bool_byte-most (names_client (get_or firsts i 0) (get_or seconds i 0) c))
-      | no h ↦ omega (arith, l.rest i (omega arith))
-    ]
+  -- No pair is listed yet.
+  pub listed-none : Listed p c (record { others = replicate 256 0; wanted = replicate 256 false }) 0
+  listed-none =
+      record {
+        clients = λ i h. absurd (omega arith);
+        flags = λ i h. absurd (omega arith);
+        rest = λ i h. replicate-all {A = Bool} 256 i false;
+      }
 
--- Where all pairs are listed, and the wanted are added, the clients in conflict are marked.
-pub listed-marked :
-    (firsts seconds : List ℕ) (c : ℕ) (others wanted bits : List ℕ) → length firsts ≤ 256 → Listed firsts seconds c others wanted (length firsts) →
-    Added others wanted bits → Marked firsts seconds c bits
-unfolding paired
-listed-marked firsts seconds c others wanted bits few l added =
-    record {
-      told = λ x.
-          added.told x ∙
-          some-those-upto (wanted_at others wanted x) (length firsts) 256 few (unwanted x) ∙
-          ap some (those-agree (wanted_at others wanted x) (pair_names (register_by 0 [] [] true firsts seconds) x c) (length firsts) (named x));
-    }
-  where
-    unwanted : (x k : ℕ) → length firsts ≤ k → wanted_at others wanted x k ≡ false
-    unwanted x k h = rw (l.rest k h)
+  -- One pair more is listed.
+  pub listed_more : (list : Listing) (n : ℕ) → n < length list.others → n < length list.wanted → Listed p c list n →
+      Listed p c (record { others = set list.others n (other_client (first n) (second n) c); wanted = set list.wanted n (names_client (first n) (second n) c) }) (n + 1)
+  listed_more list n room room2 l =
+      record {
+        clients = filled (λ i. other_client (first i) (second i) c) list.others 0 n room l.clients;
+        flags = filled (λ i. names_client (first i) (second i) c) list.wanted false n room2 l.flags;
+        rest = λ i h. get_or-set_other list.wanted n i _ false (λ e. omega arith) ∙ l.rest i (omega arith);
+      }
 
-    named : (x k : ℕ) → k < length firsts → wanted_at others wanted x k ≡ pair_names (register_by 0 [] [] true firsts seconds) x c k
-    named x k h = rw (l.clients k h, l.flags k h, bool_byte-tells) (named-between (get_or firsts k 0) (get_or seconds k 0) c x)
+  -- Where all pairs are listed, the wanted clients are those in conflict.
+  pub listed-wanted : (list : Listing) (x : ℕ) → Listed p c list (length p.lists.firsts.now) → some (those (wanted_at list x) 256) ≡ opponent p c x
+  unfolding paired
+  listed-wanted list x l =
+      let few = p.few in
+      some-those-upto (wanted_at list x) (length p.lists.firsts.now) 256 (omega arith) unwanted
+      ∙ ap some (those-agree (wanted_at list x) (pair_names (register_by 0 [] [] true p.lists.firsts.now p.lists.seconds.now) x c) (length p.lists.firsts.now) named)
+    where
+      unwanted : (k : ℕ) → length p.lists.firsts.now ≤ k → wanted_at list x k ≡ false
+      unwanted k h = rw (l.rest k h)
+
+      named : (k : ℕ) → k < length p.lists.firsts.now → wanted_at list x k ≡ pair_names (register_by 0 [] [] true p.lists.firsts.now p.lists.seconds.now) x c k
+      named k h = rw (l.clients k h, l.flags k h) (named-between (first k) (second k) c x)
 
 -- What lists that fit have.
 pub fitted-lengths : (r : Register) (row : List ℕ) → fitted r row ≡ true → (length r.clients ≡ length row) × ((pairs r ≡ length r.seconds) × (pairs r ≤ 256))
@@ -100,11 +93,15 @@ fitted-lengths r row e =
 
 -- The first folder that is looked for, where the lists fit: the marked clients are those in conflict.
 pub first-fitted :
-    (r : Register) (row bits : List ℕ) (c : ℕ) → fitted r row ≡ true → Marked r.firsts r.seconds c bits →
-    first_read row r.clients bits ≡ first_opposer r row c
+    (r : Register) (row : List ℕ) (beside : ClientRow) (set : ClientSet) (c : ℕ) → cells_of beside ≡ row → beside.clients.now ≡ r.clients → fitted r row ≡ true →
+    ((x : ℕ) → marked set x ≡ paired (register_by 0 [] [] true r.firsts r.seconds) x c) →
+    get_or (those (readable_marked beside set) (length (cells_of beside))) 0 (length (cells_of beside)) ≡ first_opposer r row c
 unfolding opposers paired
-first-fitted r row bits c e m =
-    rw (e, those-agree (read_marked row r.clients bits) (opposed r row c) (length row) (λ k h. rw (m.told (client_of r k))))
+first-fitted r row beside set c cells clients e m =
+    rw (cells, e) (ap (λ l. get_or l 0 (length row)) (those-agree (readable_marked beside set) (opposed r row c) (length row) (λ k h. sought k)))
+  where
+    sought : (k : ℕ) → readable_marked beside set k ≡ opposed r row c k
+    sought k = rw (cells, clients, m (client_of r k))
 
 -- Where they do not, it is the row's length.
 pub first-unfitted : (r : Register) (row : List ℕ) (c : ℕ) → fitted r row ≡ false → length row ≡ first_opposer r row c

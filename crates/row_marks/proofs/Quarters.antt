@@ -1,16 +1,12 @@
--- A search of 256 numbers that goes through its four quarters at once, and what it has put into the set.
+-- A search of 256 numbers that goes through its four quarters at once.
 use Prim.Native.Nat.{ℕ, zero, suc, ◌+◌, ◌-◌, ◌≤◌}
 use mathlib.Core.Path.{◌≡◌, refl, ap, ◌∙◌}
 use mathlib.Core.Bool.{Bool, true, false, ◌||◌, or-false, or_assoc}
-use mathlib.Core.List.{List}
 use native.Mathlib.Omega.{arith}
 use native.Mathlib.Numerals.{add-one}
 use native.Mathlib.Nat.{zero-add, suc-add}
-use lib.ListN.{length, replicate, length-replicate}
 use Rattle.vocabulary.specs.Those.{those, some}
 use Rattle.vocabulary.proofs.Those.{some-those-suc, those-never}
-use Rattle.row_marks.specs.Marks.{marked, wanted_at, Put, Added}
-use Rattle.row_marks.proofs.Marks.{marked-none}
 
 -- Whether a search has found something, one number further: the form for an induction.
 some-those-next : (p : ℕ → Bool) (n : ℕ) → some (those p (suc n)) ≡ (some (those p n) || p n)
@@ -48,35 +44,8 @@ some-those-or p q (suc n) =
 abbrev pub in_quarters : (ℕ → Bool) → ℕ → Bool
 in_quarters p j = ((p j || p (j + 64)) || p (j + 128)) || p (j + 192)
 
-some-those-quarters : (p : ℕ → Bool) → some (those (in_quarters p) 64) ≡ some (those p 256)
+pub some-those-quarters : (p : ℕ → Bool) → some (those (in_quarters p) 64) ≡ some (those p 256)
 some-those-quarters p =
     rw (some-those-or (λ j. (p j || p (j + 64)) || p (j + 128)) (λ j. p (j + 192)) 64)
     (rw (some-those-or (λ j. p j || p (j + 64)) (λ j. p (j + 128)) 64, some-those-or p (λ j. p (j + 64)) 64)
     (rw (← some-those-add p 64 64, ← some-those-add p 128 64, ← some-those-add p 192 64)))
-
--- Of the clients listed in the first n places of each quarter, those that are wanted are in the set, and no other client is.
-pub record Passed (others wanted bits : List ℕ) (n : ℕ) : Type 0 where
-  pub words : length bits ≡ 1024
-  pub told : (x : ℕ) → marked bits x ≡ some (those (in_quarters (wanted_at others wanted x)) n)
-
-pub passed_none : (others wanted : List ℕ) → Passed others wanted (replicate 1024 0) 0
-unfolding those
-passed_none others wanted =
-    record {
-      words = length-replicate {A = ℕ} 1024 0;
-      told = marked-none;
-    }
-
--- One place more of each quarter.
-pub passed-more :
-    (others wanted : List ℕ) (n : ℕ) (one two three four five : List ℕ) → Passed others wanted one n →
-    Put others wanted n one two → Put others wanted (n + 64) two three →
-    Put others wanted (n + 128) three four → Put others wanted (n + 192) four five → Passed others wanted five (n + 1)
-passed-more others wanted n one two three four five done a b c d =
-    record {
-      words = d.words;
-      told = λ x. rw (d.told x, c.told x, b.told x, a.told x, done.told x, some-those-suc) (simp or_assoc);
-    }
-
-pub passed-all : (others wanted bits : List ℕ) → Passed others wanted bits 64 → Added others wanted bits
-passed-all others wanted bits done = record { told = λ x. done.told x ∙ some-those-quarters (wanted_at others wanted x) }

@@ -7,7 +7,7 @@ use native.Mathlib.Omega.{arith}
 use Rattle.vocabulary.specs.Those.{those}
 use Rattle.vocabulary.proofs.Those.{those-none}
 use Rattle.vocabulary.proofs.Bools.{neither}
-use Rattle.row_marks.specs.Marks.{any_of_three}
+use Rattle.row_marks.specs.Walk.{any_of_three}
 
 -- One number more.
 next : (p : ℕ → Bool) (i j : ℕ) → j ≡ i + 1 → those p i ≡ [] → p i ≡ false → those p j ≡ []

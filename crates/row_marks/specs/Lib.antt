@@ -3,3 +3,4 @@
 pub mod Opposed
 -- Internal:
 pub mod Marks
+pub mod Walk

@@ -1,27 +1,40 @@
 // A set of clients in one array of 8 KiB, a bit for each: client c's is bit c % 64 of word c / 64.
-ghost use Rattle.std.specs.Prelude.{◌<◌, ◌*◌, ◌/◌, ◌%◌, ◌^◌, ◌≡◌, eqb};
+ghost use Rattle.std.specs.Prelude.{ℕ, ◌<◌, ◌/◌, ◌%◌, ◌≡◌, ◌||◌, ◌&&◌, false, eqb};
 ghost use Rattle.row_marks.specs.Marks.{marked};
 
 use ids::ClientNo;
 
+#[derive(Drop)]
+pub(crate) struct ClientSet {
+    words: [u64; 1024],
+}
+
 // The place of the client's word.
-pub(crate) fn word_of(client: ClientNo) -> usize
+fn word_of(client: ClientNo) -> usize
     ensures { (result ≡ client.0 / 64) × (result < 1024) }
 {
-    (client.0 / 64) as usize
+    usize::from(client.0 / 64)
 }
 
-// The client's bit in its word, or 0: the flag, moved up.
-pub(crate) fn bit_of(client: ClientNo, flag: u8) -> u64
-    ensures { result ≡ flag * 2 ^ (client.0 % 64) % 2 ^ 64 }
-{
-    (flag as u64) << (client.0 % 64)
-}
+impl ClientSet {
+    // Nobody.
+    pub(crate) fn new() -> ClientSet
+        ensures { (x : ℕ) → marked result x ≡ false }
+    {
+        ClientSet { words: [0; 1024] }
+    }
 
-// The client's bit and those above it: the lowest says whether the client is in the set.
-pub(crate) fn bits_from(bits: &[u64; 1024], client: ClientNo) -> u64
-    ensures { eqb (result % 2) 1 ≡ marked bits.now client.0 }
-{
-    let word = word_of(client);
-    bits[word] >> (client.0 % 64)
+    // Adds the client if it is wanted. The flag is moved up to the client's bit, without a branch.
+    pub(crate) fn add_if(&mut self, client: ClientNo, wanted: bool)
+        ensures { (x : ℕ) → marked self.new x ≡ (marked self.old x || wanted && eqb client.0 x) }
+    {
+        self.words[word_of(client)] |= u64::from(wanted) << (client.0 % 64);
+    }
+
+    // The client's bit and those above it: the lowest says whether the client is in the set.
+    pub(crate) fn bits_from(&self, client: ClientNo) -> u64
+        ensures { eqb (result % 2) 1 ≡ marked self.now client.0 }
+    {
+        self.words[word_of(client)] >> (client.0 % 64)
+    }
 }

@@ -1,66 +1,63 @@
 // The clients in conflict by pairs with one client, marked in two passes. Neither branches on what a list holds, since such a branch is often guessed
 // wrong.
-ghost use Rattle.std.specs.Prelude.{◌≤◌, ◌<◌, ◌≡◌, length, replicate};
-ghost use Rattle.row_marks.specs.Marks.{Listed, Flags, Put, Added, Marked};
+ghost use Rattle.std.specs.Prelude.{ℕ, ◌<◌, ◌≡◌, ◌||◌, length};
+ghost use Rattle.vocabulary.specs.Those.{those, some};
+ghost use Rattle.row_marks.specs.Marks.{marked, Listed, wanted_at, opponent};
 
-use crate::client_set::{bit_of, word_of};
+use crate::client_set::ClientSet;
+use crate::fitting::FewPairs;
 use ids::ClientNo;
 
-// Lists each pair's other client, and 1 for a pair that names the client, else 0. A pass of its own, which runs on many pairs at once.
-fn list_others(
-    firsts: &[u16],
-    seconds: &[u16],
-    client: ClientNo,
-    others: &mut [u16; 256],
-    wanted: &mut [u8; 256],
-)
-    requires { (length firsts.now ≡ length seconds.now) × ((length firsts.now ≤ 256) × Listed firsts.now seconds.now client.0 others.old wanted.old 0) }
-    ensures { Listed firsts.now seconds.now client.0 others.new wanted.new (length firsts.now) }
-{
-    let mut i = 0;
-    while i < firsts.len() {
-        let first = ClientNo(firsts[i]);
-        let second = ClientNo(seconds[i]);
-        let other = register_pairs::other(first, second, client);
-        others[i] = other.0;
-        wanted[i] = register_pairs::names(first, second, client) as u8;
-        i += 1;
+// Each pair's other client, and whether the pair names the client asked for.
+#[derive(Drop)]
+struct Listing {
+    others: [u16; 256],
+    wanted: [bool; 256],
+}
+
+impl Listing {
+    // A pass of its own, which runs on many pairs at once.
+    fn of(pairs: FewPairs, client: ClientNo) -> Listing
+        ensures { Listed pairs.entry client.0 result (length pairs.entry.lists.firsts.now) }
+    {
+        let mut list = Listing {
+            others: [0; 256],
+            wanted: [false; 256],
+        };
+        for i in 0..pairs.lists.firsts.len() {
+            let first = ClientNo(pairs.lists.firsts[i]);
+            let second = ClientNo(pairs.lists.seconds[i]);
+            list.others[i] = register_pairs::other(first, second, client).0;
+            list.wanted[i] = register_pairs::names(first, second, client);
+        }
+        list
+    }
+
+    // Adds the client listed at a place, if it is wanted.
+    fn add(&self, at: usize, set: &mut ClientSet)
+        requires { at < 256 }
+        ensures { (x : ℕ) → marked set.new x ≡ (marked set.old x || wanted_at self.now x at) }
+    {
+        set.add_if(ClientNo(self.others[at]), self.wanted[at]);
+    }
+
+    // Adds those that are wanted, four at a time, a quarter of the list apart: clients that are numbered one after the other share a word, and a word
+    // that was just stored is slow to load.
+    fn add_wanted(&self, set: &mut ClientSet)
+        ensures { (x : ℕ) → marked set.new x ≡ (marked set.old x || some (those (wanted_at self.now x) 256)) }
+    {
+        for i in 0..64 {
+            self.add(i, set);
+            self.add(i + 64, set);
+            self.add(i + 128, set);
+            self.add(i + 192, set);
+        }
     }
 }
 
-// Adds the client listed at a place, if it is wanted.
-fn add(others: &[u16; 256], wanted: &[u8; 256], at: usize, bits: &mut [u64; 1024])
-    requires { (at < 256) × (Flags wanted.now × (length bits.old ≡ 1024)) }
-    ensures { Put others.now wanted.now at bits.old bits.new }
+// Adds the opponents of the client in all pairs. The set is filled where it stands: a set that is handed back may be copied.
+pub(crate) fn add_opponents(pairs: FewPairs, client: ClientNo, set: &mut ClientSet)
+    ensures { (x : ℕ) → marked set.new x ≡ (marked set.old x || opponent pairs.entry client.0 x) }
 {
-    let client = ClientNo(others[at]);
-    let word = word_of(client);
-    bits[word] = bits[word] | bit_of(client, wanted[at]);
-}
-
-// Adds those of the clients listed that are wanted, four at a time, a quarter of the list apart: clients that are numbered one after the other share
-// a word, and a word that was just stored is slow to load.
-fn add_wanted(others: &[u16; 256], wanted: &[u8; 256], bits: &mut [u64; 1024])
-    requires { Flags wanted.now × (bits.old ≡ replicate 1024 0) }
-    ensures { Added others.now wanted.now bits.new }
-{
-    let mut i = 0;
-    while i < 64 {
-        add(others, wanted, i, bits);
-        add(others, wanted, i + 64, bits);
-        add(others, wanted, i + 128, bits);
-        add(others, wanted, i + 192, bits);
-        i += 1;
-    }
-}
-
-// Marks the opponents of the client in all pairs.
-pub(crate) fn mark_all(firsts: &[u16], seconds: &[u16], client: ClientNo, bits: &mut [u64; 1024])
-    requires { (length firsts.now ≡ length seconds.now) × ((length firsts.now ≤ 256) × (bits.old ≡ replicate 1024 0)) }
-    ensures { Marked firsts.now seconds.now client.0 bits.new }
-{
-    let mut others = [0u16; 256];
-    let mut wanted = [0u8; 256];
-    list_others(firsts, seconds, client, &mut others, &mut wanted);
-    add_wanted(&others, &wanted, bits);
+    Listing::of(pairs, client).add_wanted(set);
 }

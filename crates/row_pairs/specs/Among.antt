@@ -2,7 +2,9 @@
 use Rattle.std.specs.Prelude.{ℕ, ◌+◌, Bool, ◌&&◌, ◌||◌, List, length, get_or, eqb}
 use Rattle.vocabulary.specs.Those.{those, member}
 use Rattle.policy.specs.Rules.{cell, can_read}
+use Rattle.row_marks.specs.Walk.{cells_of}
 use Rattle.row_pairs.specs.declared.groups.Four.{Four}
+use Rattle.row_pairs.specs.declared.groups.Search.{Search}
 
 -- Folder f may be read, and its client passes a test.
 abbrev pub readable_with : (ℕ → Bool) → List ℕ → List ℕ → ℕ → Bool
@@ -39,3 +41,7 @@ four a b c d =
 -- The four listed clients from a place on, the first of them again where there are fewer.
 abbrev pub four_from : List ℕ → ℕ → Four
 four_from list i = four (get_or list i 0) (get_or list (i + 1) (get_or list i 0)) (get_or list (i + 2) (get_or list i 0)) (get_or list (i + 3) (get_or list i 0))
+
+-- Folder f may be read, and its client is one of the four that are sought.
+abbrev pub found : Search → ℕ → Bool
+found s f = readable_with (one_of s.four) (cells_of s.row) s.row.clients.now f

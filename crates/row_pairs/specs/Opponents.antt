@@ -1,5 +1,5 @@
 -- Internal: a client's opponents by pairs, counted and listed. No rule of document 02 stands here.
-use Rattle.std.specs.Prelude.{ℕ, ◌≤◌, ◌≡◌, Bool, List, map, length, get_or, take}
+use Rattle.std.specs.Prelude.{ℕ, Bool, List, map, length, get_or}
 use Rattle.vocabulary.specs.Those.{those}
 use Rattle.register_pairs.specs.Pair.{names_client, other_client}
 
@@ -18,13 +18,3 @@ named firsts seconds c = length (those (names firsts seconds c) (length firsts))
 -- The other clients of the first n pairs, as far as these name c.
 unfoldable pub opponents : List ℕ → List ℕ → ℕ → ℕ → List ℕ
 opponents firsts seconds c n = map (other_of firsts seconds c) (those (names firsts seconds c) n)
-
--- How many opponents are listed at most.
-abbrev pub most : ℕ
-most = 32
-
--- A list of that length begins with them all, and n says how many they are.
-pub record Gathered (all list : List ℕ) (n : ℕ) : Type 0 where
-  pub room : length list ≡ most
-  pub few : n ≤ most
-  pub held : take n list ≡ all

@@ -11,12 +11,12 @@ use Rattle.vocabulary.proofs.Place.{with_row_at-row_at}
 use Rattle.log_bytes.specs.Record.{record_bytes}
 use Rattle.register.specs.Register.{Register, register_of, folders}
 use Rattle.policy.specs.Outcome.{Request, Log, Outcome, is_logged, record_of, unchanged, logged, told}
-use Rattle.response.specs.declared.Response.{Response}
-use Rattle.response.specs.declared.Response.TheVariants.{Granted}
-use Rattle.response.specs.Response.{response_answer}
+use Rattle.std.specs.Prelude.{Result, Ok}
+use Rattle.response.specs.declared.Refusal.{Refusal}
+use Rattle.response.specs.Response.{response_answer, wall_refusal_answer}
 use Rattle.row.specs.Row.{ruled}
-use Rattle.log_writer.specs.declared.WallRefusal.{WallRefusal}
-use Rattle.log_writer.specs.Logged.{refusal_answer, logged_outcome}
+use Rattle.response.specs.declared.WallRefusal.{WallRefusal}
+use Rattle.log_writer.specs.Logged.{logged_outcome}
 use Rattle.row_decision.specs.Decision.{served_answer}
 use Rattle.row_request.specs.Served.{served_at}
 use Rattle.row_request.proofs.Served.{served-granted, served-barred, served-refused}
@@ -56,19 +56,19 @@ module _ (r : Register) (matrix : List ℕ) (start : ℕ) (q : Request) (log : L
   abbrev decided : Answer
   decided = served_answer r (row_at matrix start (folders r)) q (length log.bytes) log.end
 
-  pub granted-at : (n : ℕ) → response_answer (Granted n) ≡ ruled decided → granted_at (register_of 0 r.classes r.clients) matrix start q log ≡ served_at r matrix start q log
+  pub granted-at : (n : ℕ) → response_answer (Ok n) ≡ ruled decided → granted_at (register_of 0 r.classes r.clients) matrix start q log ≡ served_at r matrix start q log
   unfolding served_at grant_leaves granted_outcome
   granted-at n d =
       logged-in matrix start (folders r) q log (grant_on (register_of 0 r.classes r.clients) (row_at matrix start (folders r)) q) _
       ∙ ap (in_matrix matrix start (folders r)) (served-granted r (row_at matrix start (folders r)) q log n d)
 
-  pub barred-at : (w : WallRefusal) → refusal_answer w ≡ ruled decided → logged_outcome matrix q log (refusal_answer w) ≡ served_at r matrix start q log
+  pub barred-at : (w : WallRefusal) → wall_refusal_answer w ≡ ruled decided → logged_outcome matrix q log (wall_refusal_answer w) ≡ served_at r matrix start q log
   unfolding served_at
   barred-at w d =
-      refusal-in matrix start (folders r) q log (refusal_answer w)
+      refusal-in matrix start (folders r) q log (wall_refusal_answer w)
       ∙ ap (in_matrix matrix start (folders r)) (served-barred r (row_at matrix start (folders r)) q log w d)
 
-  pub refused-at : (p : Response) → is_logged (response_answer p) ≡ false → response_answer p ≡ ruled decided → unchanged (response_answer p) matrix log ≡ served_at r matrix start q log
+  pub refused-at : (p : Result ℕ Refusal) → is_logged (response_answer p) ≡ false → response_answer p ≡ ruled decided → unchanged (response_answer p) matrix log ≡ served_at r matrix start q log
   unfolding served_at
   refused-at p u d =
       unchanged-in matrix start (folders r) (response_answer p) log

@@ -1,29 +1,24 @@
--- What is known of a response that the code's `match` leaves to `_` after a grant and the wall's refusals.
+-- A refusal that is not the wall's is not logged.
 use mathlib.Core.Path.{◌≡◌, refl}
 use mathlib.Core.Bool.{false}
-use Prim.Native.Nat.{ℕ}
-use Rattle.ids.specs.declared.FolderNo.{FolderNo}
-use Rattle.response.specs.Response.{response_answer}
-use Rattle.response.specs.declared.Response.{Response}
-use Rattle.response.specs.declared.Response.TheVariants.{Granted, OutOfRange, LoneZero, TwoClasses, MatrixLength, UnknownLogin, UnknownFolder, UnknownKind, BadCell, BadEnd, BadPersons, BadPairs, Rival, Foreign, AtStake, NoRoom}
+use Rattle.register.specs.declared.RegisterFault.TheVariants.{OutOfRange, LoneZero, TwoClasses, BadPairs}
+use Rattle.response.specs.declared.WallRefusal.{WallRefusal}
+use Rattle.response.specs.declared.Refusal.{Refusal}
+use Rattle.response.specs.declared.Refusal.TheVariants.{Register, MatrixLength, UnknownLogin, UnknownFolder, UnknownKind, BadCell, BadEnd, BadPersons, Wall, NoRoom}
+use Rattle.response.specs.Response.{refusal_answer}
 use Rattle.policy.specs.Outcome.{is_logged}
 
-pub not-logged : (a : Response) →
-    ((n : ℕ) → a ≡ Granted n → ⊥) → ((f : FolderNo) → a ≡ Rival f → ⊥) → ((f : FolderNo) → a ≡ Foreign f → ⊥) → ((f : FolderNo) → a ≡ AtStake f → ⊥) →
-    is_logged (response_answer a) ≡ false
-not-logged (Granted n) granted rival foreign stake = absurd (granted n refl)
-not-logged (Rival f) granted rival foreign stake = absurd (rival f refl)
-not-logged (Foreign f) granted rival foreign stake = absurd (foreign f refl)
-not-logged (AtStake f) granted rival foreign stake = absurd (stake f refl)
-not-logged OutOfRange granted rival foreign stake = refl
-not-logged (LoneZero f) granted rival foreign stake = refl
-not-logged (TwoClasses f g) granted rival foreign stake = refl
-not-logged MatrixLength granted rival foreign stake = refl
-not-logged UnknownLogin granted rival foreign stake = refl
-not-logged UnknownFolder granted rival foreign stake = refl
-not-logged UnknownKind granted rival foreign stake = refl
-not-logged (BadCell f) granted rival foreign stake = refl
-not-logged BadEnd granted rival foreign stake = refl
-not-logged BadPersons granted rival foreign stake = refl
-not-logged BadPairs granted rival foreign stake = refl
-not-logged NoRoom granted rival foreign stake = refl
+pub not-logged : (a : Refusal) → ((w : WallRefusal) → a ≡ Wall w → ⊥) → is_logged (refusal_answer a) ≡ false
+not-logged (Register OutOfRange) wall = refl
+not-logged (Register (LoneZero f)) wall = refl
+not-logged (Register (TwoClasses f g)) wall = refl
+not-logged (Register BadPairs) wall = refl
+not-logged MatrixLength wall = refl
+not-logged UnknownLogin wall = refl
+not-logged UnknownFolder wall = refl
+not-logged UnknownKind wall = refl
+not-logged (BadCell f) wall = refl
+not-logged BadEnd wall = refl
+not-logged BadPersons wall = refl
+not-logged (Wall w) wall = absurd (wall w refl)
+not-logged NoRoom wall = refl

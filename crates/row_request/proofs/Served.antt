@@ -13,18 +13,18 @@ use Rattle.vocabulary.proofs.Judge.{judge-silent}
 use Rattle.vocabulary.proofs.Those.{some-none}
 use Rattle.cells.specs.Above.{aboves}
 use Rattle.register.specs.Register.{Register, register_of}
-use Rattle.response.specs.declared.Response.{Response}
-use Rattle.response.specs.declared.Response.TheVariants.{Granted}
-use Rattle.response.specs.Response.{response_answer}
+use Rattle.std.specs.Prelude.{Result, Ok}
+use Rattle.response.specs.declared.Refusal.{Refusal}
+use Rattle.response.specs.Response.{response_answer, wall_refusal_answer}
 use Rattle.policy.specs.Rules.{lost, row_after}
 use Rattle.policy.specs.Outcome.{Request, Log, wall_checks, wall_answer, by_wall, is_logged, unchanged}
 use Rattle.row_labels.specs.Fitting.{lists_fit, fitting}
 use Rattle.row.specs.Row.{fit_checks, row_answer, ruled, lost_on}
 use Rattle.row.proofs.Fitting.{ruled-number}
 use Rattle.row_grant.specs.Granted.{row_granted}
-use Rattle.log_writer.specs.declared.WallRefusal.{WallRefusal}
-use Rattle.log_writer.specs.declared.WallRefusal.TheVariants.{Rival, Foreign, AtStake}
-use Rattle.log_writer.specs.Logged.{refusal_answer, logged_outcome}
+use Rattle.response.specs.declared.WallRefusal.{WallRefusal}
+use Rattle.response.specs.declared.WallRefusal.TheVariants.{Rival, Foreign, AtStake}
+use Rattle.log_writer.specs.Logged.{logged_outcome}
 use Rattle.row_decision.specs.Decision.{row_checks, served_answer}
 use Rattle.row_request.specs.Served.{served_outcome}
 use Rattle.row_request.specs.Cut.{granted_outcome}
@@ -58,7 +58,7 @@ module _ (r : Register) (row : List ℕ) (q : Request) (log : Log) where
       e ∙ row-granted r row q.folder q.kind (rw e at n)
 
   -- A grant is decided on a row that it fits, with cells of 0 to 3.
-  pub granted-sound : (n : ℕ) → response_answer (Granted n) ≡ ruled said → (fitting (register_of 0 r.classes r.clients) row q.folder ≡ true) × (aboves row ≡ [])
+  pub granted-sound : (n : ℕ) → response_answer (Ok n) ≡ ruled said → (fitting (register_of 0 r.classes r.clients) row q.folder ≡ true) × (aboves row ≡ [])
   unfolding served_answer row_checks row_answer fit_checks fitting lists_fit
   granted-sound count d =
       let n = sym (ap (λ (a : Answer). a.number) d ∙ ruled-number said) in
@@ -69,18 +69,18 @@ module _ (r : Register) (row : List ℕ) (q : Request) (log : Log) where
       (rw (f, k), some-none (aboves row) a.0.1.0)
 
   -- The carrying out of a grant looks at no conflict.
-  pub served-granted : (n : ℕ) → response_answer (Granted n) ≡ ruled said → granted_outcome (register_of 0 r.classes r.clients) row q log ≡ served_outcome r row q log
+  pub served-granted : (n : ℕ) → response_answer (Ok n) ≡ ruled said → granted_outcome (register_of 0 r.classes r.clients) row q log ≡ served_outcome r row q log
   unfolding served_outcome granted_outcome lost_on lost row_granted row_after fitting lists_fit
   served-granted n d = rw (said-granted (sym (ap (λ (a : Answer). a.number) d ∙ ruled-number said)))
 
-  pub served-barred : (w : WallRefusal) → refusal_answer w ≡ ruled said →
-      logged_outcome row q log (refusal_answer w) ≡ served_outcome r row q log
+  pub served-barred : (w : WallRefusal) → wall_refusal_answer w ≡ ruled said →
+      logged_outcome row q log (wall_refusal_answer w) ≡ served_outcome r row q log
   unfolding served_outcome logged_outcome
-  served-barred (Rival f) d = rw (ruled-other (refusal_answer (Rival f)) said refl d)
-  served-barred (Foreign f) d = rw (ruled-other (refusal_answer (Foreign f)) said refl d)
-  served-barred (AtStake f) d = rw (ruled-other (refusal_answer (AtStake f)) said refl d)
+  served-barred (Rival f) d = rw (ruled-other (wall_refusal_answer (Rival f)) said refl d)
+  served-barred (Foreign f) d = rw (ruled-other (wall_refusal_answer (Foreign f)) said refl d)
+  served-barred (AtStake f) d = rw (ruled-other (wall_refusal_answer (AtStake f)) said refl d)
 
-  pub served-refused : (p : Response) → is_logged (response_answer p) ≡ false → response_answer p ≡ ruled said →
+  pub served-refused : (p : Result ℕ Refusal) → is_logged (response_answer p) ≡ false → response_answer p ≡ ruled said →
       unchanged (response_answer p) row log ≡ served_outcome r row q log
   unfolding served_outcome
   served-refused p u d =

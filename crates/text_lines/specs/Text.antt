@@ -1,7 +1,6 @@
 -- Numbers and lines as they are printed (document 01, 'The desk program'), and a text as it is handed back.
-use Rattle.std.specs.Prelude.{ℕ, zero, suc, ◌+◌, ◌/◌, ◌%◌, cond, ◌||◌, List, [], ◌∷◌, ◌++◌, ltb, length, replicate, take}
-use Rattle.std.proofs.lemmas.List.Edits.{sets}
-use Rattle.text_lines.specs.declared.Text.{Text}
+use Rattle.std.specs.Prelude.{ℕ, zero, suc, ◌+◌, ◌/◌, ◌%◌, cond, ◌||◌, List, [], ◌∷◌, ◌++◌, ltb, length}
+use Rattle.text_lines.specs.declared.text.Text.{Text}
 
 -- A number's digits, of which at most `more` stand before the last.
 unfoldable pub decimal_by : ℕ → ℕ → List ℕ
@@ -31,14 +30,10 @@ printed word number rest = word ++ decimal number ++ spaced rest ++ (10 ∷ [])
 abbrev pub bounded : (word : List ℕ) → (number : ℕ) → (rest : List ℕ) → List ℕ
 bounded word number rest = cond (ltb 64 (length word) || ltb 512 (length rest)) [] (printed word number rest)
 
--- The text's bytes from the start of the buffer, zeros after them, and how many they are.
-unfoldable pub text_of : List ℕ → Text
-text_of bytes =
-    record {
-      bytes = sets (replicate 4096 0) 0 bytes;
-      len = length bytes;
-    }
+-- A text that is handed back is its bytes.
+abbrev pub text_of : List ℕ → Text
+text_of bytes = bytes
 
 -- What a program writes of a text that is handed back.
 abbrev pub shown : Text → List ℕ
-shown text = take text.len text.bytes
+shown text = text

@@ -9,19 +9,11 @@ ghost use Rattle.unpacking.specs.Answers.{unpacking};
 ghost use Rattle.unpacking.specs.Unpacked.{from, cell_at, unpacked, unused};
 ghost use Rattle.unpacking.specs.Unpacks.{unpacks};
 
-// The answers of unpacking: 0; 62, unused bits of the last byte are set; 61, the lengths don't match.
-#[derive(Clone, Copy)]
-pub enum Unpacking {
-    Unpacked,
+// The refusals of unpacking: 62, unused bits of the last byte are set; 61, the lengths don't match.
+#[derive(Clone, Copy, PartialEq, Eq)]
+pub enum UnpackError {
     UnusedSet,
     Unequal,
-}
-
-// The bytes that a number of cells takes: a quarter of it, rounded up.
-fn bytes_for(cells: usize) -> usize
-    ensures { result ≡ quarter cells }
-{
-    cells / 4 + (cells % 4 + 3) / 4
 }
 
 // What a byte has from its cell j on, j from 0 to 3.
@@ -36,10 +28,7 @@ fn from_cell(byte: u8, j: usize) -> u8
 fn unused_bits(bytes: &[u8], count: usize) -> u8
     ensures { result ≡ unused count bytes.now }
 {
-    if count / 4 < bytes.len() {
-        return from_cell(bytes[count / 4], count % 4);
-    }
-    0
+    from_cell(bytes.get(count / 4).copied().unwrap_or(0), count % 4)
 }
 
 // Writes the cells from place `start` on, one by one.
@@ -48,10 +37,8 @@ fn write_rest(bytes: &[u8], cells: &mut [u8], start: usize)
     requires { (length bytes.now ≡ quarter (length cells.old)) × (start ≤ length cells.old) × (cells.old ≡ filled (cell_at bytes.now) start cells.old) }
     ensures { cells.new ≡ unpacked (length cells.old) bytes.now }
 {
-    let mut i = start;
-    while i < cells.len() {
+    for i in start..cells.len() {
         cells[i] = from_cell(bytes[i / 4], i % 4) % 4;
-        i += 1;
     }
 }
 
@@ -62,29 +49,27 @@ fn write_cells(bytes: &[u8], cells: &mut [u8])
     ensures { cells.new ≡ unpacked (length cells.old) bytes.now }
 {
     let whole = cells.len() / 4;
-    let mut k = 0;
-    while k < whole {
+    for k in 0..whole {
         let byte = bytes[k];
         let i = 4 * k;
         cells[i] = byte % 4;
         cells[i + 1] = byte / 4 % 4;
         cells[i + 2] = byte / 16 % 4;
         cells[i + 3] = byte / 64 % 4;
-        k += 1;
     }
     write_rest(bytes, cells, 4 * whole);
 }
 
 // Unpacks `packed` into `cells`; a refusal leaves `cells` as they were.
-pub fn unpack(packed: &[u8], cells: &mut [u8]) -> Unpacking
+pub fn unpack(packed: &[u8], cells: &mut [u8]) -> Result<(), UnpackError>
     ensures { copy_outcome (unpacking result) cells.new ≡ unpacks packed.now cells.old }
 {
-    if bytes_for(cells.len()) != packed.len() {
-        return Unpacking::Unequal;
+    if cells.len().div_ceil(4) != packed.len() {
+        return Err(UnpackError::Unequal);
     }
     if unused_bits(packed, cells.len()) != 0 {
-        return Unpacking::UnusedSet;
+        return Err(UnpackError::UnusedSet);
     }
     write_cells(packed, cells);
-    Unpacking::Unpacked
+    Ok(())
 }

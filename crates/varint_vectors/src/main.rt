@@ -3,8 +3,8 @@
 #![tactic(auto)]
 
 use std::io;
-use varint_read::Decoded;
-use varint_write::Written;
+use varint_read::NumberFault;
+use varint_write::NoRoom;
 
 fn main(rt: HostRuntime) -> io::Result<()> {
     show_written(&rt, 0)?;
@@ -46,7 +46,7 @@ fn show_written(rt: &impl Print, n: u16) -> io::Result<()> {
     let mut out = [0u8; 3];
     print(rt, n as u64, ':')?;
     let answer = varint_write::write(&mut out, 0, n);
-    let Written::Next(next) = answer else {
+    let Ok(next) = answer else {
         return Ok(());
     };
     show_bytes(rt, &out, next)
@@ -61,19 +61,18 @@ fn show_bytes(rt: &impl Print, s: &[u8], n: usize) -> io::Result<()> {
 }
 
 fn show_read(rt: &impl Print, s: &[u8], at: usize) -> io::Result<()> {
-    let answer = varint_read::read(s, at);
-    match answer {
-        Decoded::Number { value, next } => {
+    match varint_read::read(s, at) {
+        Ok((value, next)) => {
             print(rt, 0, ' ')?;
-            print(rt, value as u64, ' ')?;
+            print(rt, u64::from(value), ' ')?;
             print(rt, next as u64, '\n')
         }
-        Decoded::Cut(place) => {
-            print(rt, 51, ' ')?;
-            print(rt, place as u64, '\n')
-        }
-        Decoded::Bad(place) => {
-            print(rt, 52, ' ')?;
+        Err(fault) => {
+            let (number, place) = match fault {
+                NumberFault::Cut(place) => (51, place),
+                NumberFault::Bad(place) => (52, place),
+            };
+            print(rt, number, ' ')?;
             print(rt, place as u64, '\n')
         }
     }
@@ -82,11 +81,11 @@ fn show_read(rt: &impl Print, s: &[u8], at: usize) -> io::Result<()> {
 fn show_room(rt: &impl Print, out: &mut [u8], at: usize, n: u16) -> io::Result<()> {
     let answer = varint_write::write(out, at, n);
     match answer {
-        Written::Next(next) => {
+        Ok(next) => {
             print(rt, 0, ' ')?;
             print(rt, next as u64, '\n')
         }
-        Written::NoRoom => print(rt, 30, '\n'),
+        Err(NoRoom) => print(rt, 30, '\n'),
     }
 }
 
@@ -98,14 +97,10 @@ fn count_returning() -> usize {
 fn returns(n: u16) -> bool {
     let mut out = [0u8; 3];
     let written = varint_write::write(&mut out, 0, n);
-    let Written::Next(end) = written else {
+    let Ok(end) = written else {
         return false;
     };
-    let answer = varint_read::read(&out, 0);
-    let Decoded::Number { value, next } = answer else {
-        return false;
-    };
-    (value == n) & (next == end) & (varint_write::length(n) == end)
+    (varint_read::read(&out, 0) == Ok((n, end))) & (varint_write::length(n) == end)
 }
 
 fn print(rt: &impl Print, n: u64, after: char) -> io::Result<()> {

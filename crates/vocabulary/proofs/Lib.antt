@@ -6,3 +6,4 @@ pub mod Order
 pub mod Sets
 pub mod Parsed
 pub mod Place
+pub mod Chains

@@ -1,8 +1,6 @@
 -- A row in the matrix, F cells for each person, person by person, and the place of a walk over it (document 01, 'The matrix'; document 02, C-13 and
 -- C-14).
-use Rattle.std.specs.Prelude.{ℕ, ◌+◌, ◌*◌, ◌≡◌, List, ◌++◌, length, take, drop}
-use Rattle.std.specs.Borrow.{Bor}
-use denote.Triple.Both.{Both}
+use Rattle.std.specs.Prelude.{ℕ, ◌+◌, ◌*◌, ◌≡◌, List, ◌++◌, take, drop}
 
 -- The row that starts at a place: as many cells as there are folders, as far as the matrix has them.
 abbrev pub row_at : List ℕ → (start folders : ℕ) → List ℕ
@@ -11,13 +9,6 @@ row_at matrix start folders = take folders (drop start matrix)
 -- The matrix with another row there.
 abbrev pub with_row_at : List ℕ → (start folders : ℕ) → List ℕ → List ℕ
 with_row_at matrix start folders row = take start matrix ++ (row ++ drop folders (drop start matrix))
-
--- The row in a matrix that is lent, with a folder for each label of a list; and that when the function is called.
-abbrev pub row_in : Bor (List ℕ) → ℕ → Bor (List ℕ) → List ℕ
-row_in matrix start labels = row_at matrix.now start (length labels.now)
-
-abbrev pub lent_row : {X Y : Type 0} → Both (Bor (List ℕ)) X → ℕ → Both (Bor (List ℕ)) Y → List ℕ
-lent_row matrix start labels = row_in matrix.entry start labels.entry
 
 -- The running place of a walk at folder f of a row: 'at every step it is the row's number times F plus the folder', whichever row it is that has this
 -- start.

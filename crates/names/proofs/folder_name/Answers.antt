@@ -7,20 +7,20 @@ use Rattle.names.proofs.folder_name.Goals as goal
 
 pub part-requires : goal.part-requires
 part-requires c =
-    stretch-fits _ _ _ {s = stretch_of 0 c.in-Client.span} (rw c.in-Client.is at c.find.ensures)
+    stretch-fits _ _ _ {s = stretch_of 0 c.in-Some-Client.span} (rw (c.in-Some-Client.is, c.in-Some-Client.field-0-is) at c.find.ensures)
 
-pub part-requires-in-House : goal.part-requires-in-House
-part-requires-in-House c =
-    stretch-fits _ _ _ {s = stretch_of 1 c.in-House.span} (rw c.in-House.is at c.find.ensures)
+pub part-requires-in-Some-House : goal.part-requires-in-Some-House
+part-requires-in-Some-House c =
+    stretch-fits _ _ _ {s = stretch_of 1 c.in-Some-House.span} (rw (c.in-Some-House.is, c.in-Some-House.field-0-is) at c.find.ensures)
 
-pub returns-in-Client : goal.returns-in-Client
-returns-in-Client c =
-    c.part.ensures ∙ cut-name_shown _ _ _ {s = stretch_of 0 c.in-Client.span} (rw c.in-Client.is at c.find.ensures)
+pub returns-in-Some-Client : goal.returns-in-Some-Client
+returns-in-Some-Client c =
+    c.part.ensures ∙ cut-name_shown _ _ _ {s = stretch_of 0 c.in-Some-Client.span} (rw (c.in-Some-Client.is, c.in-Some-Client.field-0-is) at c.find.ensures)
 
-pub returns-in-House : goal.returns-in-House
-returns-in-House c =
-    c.part-in-House.ensures ∙ cut-name_shown _ _ _ {s = stretch_of 1 c.in-House.span} (rw c.in-House.is at c.find.ensures)
+pub returns-in-Some-House : goal.returns-in-Some-House
+returns-in-Some-House c =
+    c.part-in-Some-House.ensures ∙ cut-name_shown _ _ _ {s = stretch_of 1 c.in-Some-House.span} (rw (c.in-Some-House.is, c.in-Some-House.field-0-is) at c.find.ensures)
 
-pub returns-in-Unnamed : goal.returns-in-Unnamed
-returns-in-Unnamed c =
-    cut-none (part_of c.args.client) ∙ cut-name_shown _ _ _ {s = no_stretch} (rw c.in-Unnamed.is at c.find.ensures)
+pub returns-in-None : goal.returns-in-None
+returns-in-None c =
+    cut-none (part_of c.args.client) ∙ cut-name_shown _ _ _ {s = no_stretch} (rw c.in-None.is at c.find.ensures)

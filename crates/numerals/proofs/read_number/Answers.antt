@@ -1,28 +1,26 @@
--- `read_number` meets its contract: no digit, a needless leading 0, or the digits at the place.
-use Rattle.std.proofs.Common.{arith, sym, ◌≡◌, ◌∙◌, true}
-use Rattle.numerals.specs.Numbers.{is_digit, byte_at}
-use Rattle.numerals.proofs.Digits.{digit-inside, number-none, number-zero, number-on}
+-- `read_number` meets its contract: past the end there are no digits, and elsewhere they write a number or none.
+use Rattle.std.proofs.Common.{rules, refl, sym, ◌≡◌, ◌∙◌, ◌≤◌, length, drop}
+use Rattle.std.proofs.lemmas.List.{take_rest}
+use lib.ListN.{drop_of_length-le}
+use Rattle.numerals.specs.Numbers.{digits_of, number_at}
+use Rattle.numerals.proofs.Digits.{number-none, number-found}
 use Rattle.numerals.proofs.read_number.Goals as goal
 
-pub returns-then-not-is_digit : goal.returns-then-not-is_digit
-returns-then-not-is_digit c =
-    let a = c.args in
-    sym (number-none a.text.now a.place (rw c.byte_at-first.ensures at (sym c.is_digit.ensures ∙ c.if-not-is_digit.true)))
+pub returns-in_err-get : goal.returns-in_err-get
+unfolding number_at digits_of
+returns-in_err-get c =
+    let past : length c.args.text.now ≤ c.args.place = search rules in
+    rw (c.from_residual.ensures, drop_of_length-le c.args.text.now past) refl
 
-pub overflow_add-place : goal.overflow_add-place
-overflow_add-place c =
-    let a = c.args in
-    let digit : is_digit (byte_at a.text.now a.place) ≡ true = rw c.byte_at-first.ensures at (sym c.is_digit.ensures ∙ c.if-not-is_digit.false) in
-    omega (arith, digit-inside a.text.now a.place digit)
-
-pub returns-then-first-is_digit : goal.returns-then-first-is_digit
-returns-then-first-is_digit c =
-    let a = c.args in
-    let digit : is_digit (byte_at a.text.now a.place) ≡ true = rw c.byte_at-first.ensures at (sym c.is_digit.ensures ∙ c.if-not-is_digit.false) in
-    sym (number-zero a.text.now a.place digit (rw (c.is_digit-2.ensures, c.byte_at.ensures, c.byte_at-first.ensures) at c.if-first-is_digit.true))
+-- the digits are those at the place
+pub returns-in_err-value : goal.returns-in_err-value
+returns-in_err-value c =
+    let rest : c.in_ok-get.field-0.now ≡ drop c.args.place c.args.text.now = search (rules, take_rest c.args.text.now c.args.place) in
+    rw c.from_residual-in_err-value.ensures
+    (number-none c.args.text.now c.args.place (rw (c.digits_of-digits.ensures, rest) at (sym c.number_of.ensures ∙ c.in_err-value.was)))
 
 pub returns : goal.returns
 returns c =
-    let a = c.args in
-    let digit : is_digit (byte_at a.text.now a.place) ≡ true = rw c.byte_at-first.ensures at (sym c.is_digit.ensures ∙ c.if-not-is_digit.false) in
-    c.more_digits.ensures ∙ sym (number-on a.text.now a.place digit (rw (c.is_digit-2.ensures, c.byte_at.ensures, c.byte_at-first.ensures) at c.if-first-is_digit.false))
+    let rest : c.in_ok-get.field-0.now ≡ drop c.args.place c.args.text.now = search (rules, take_rest c.args.text.now c.args.place) in
+    rw (c.digits_of-digits.ensures, rest)
+    (number-found c.args.text.now c.args.place c.in_ok-value.value (rw (c.digits_of-digits.ensures, rest) at (sym c.number_of.ensures ∙ c.in_ok-value.was)))

@@ -4,8 +4,8 @@ use Rattle.cells.proofs.Above.{above-none}
 use borrow.Author.Rules.{rules}
 use Rattle.packing.proofs.pack.Goals as goal
 
-pub returns-then-packed-bytes_for : goal.returns-then-packed-bytes_for
-returns-then-packed-bytes_for c =
+pub returns-then-packed-div_ceil : goal.returns-then-packed-div_ceil
+returns-then-packed-div_ceil c =
     pack-unequal _ _ (search rules)
 
 pub returns-then-above-cells : goal.returns-then-above-cells

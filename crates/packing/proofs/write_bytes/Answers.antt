@@ -1,27 +1,20 @@
 -- `write_bytes` meets its contract. The invariant: the first k bytes are those of the packed form, the others as they were.
-use Prim.Native.Nat.{◌≤◌, ◌-◌}
-use mathlib.Core.Path.{◌≡◌, refl}
-use lib.ListN.{length}
-use Rattle.packing.specs.Cut.{filled}
-use Rattle.packing.specs.Packed.{byte_at, packed}
+use Rattle.std.proofs.Common.{rules, refl}
+use Rattle.packing.specs.Packed.{packed}
 use Rattle.packing.proofs.Tabulates.{filled_zero, set-filled, filled-length}
-use borrow.Author.Rules.{rules}
 use Rattle.packing.proofs.write_bytes.Goals as goal
 
 pub loop-k-init : goal.loop-k-init
-loop-k-init c =
-    (search rules, refl, filled_zero _ _)
+loop-k-init c = (refl, filled_zero _ _)
 
 pub loop-k-preserved : goal.loop-k-preserved
-loop-k-preserved c =
-    (search rules, search rules, set-filled _ _ c.loop-k.invariant.2 refl c.whole_byte.ensures (search rules))
+loop-k-preserved c = (search rules, set-filled _ _ c.loop-k.invariant.1 refl c.whole_byte.ensures (search rules))
 
 pub returns-then-whole-bytes : goal.returns-then-whole-bytes
 unfolding packed
 returns-then-whole-bytes c =
-    filled-length _ _ c.loop-k.invariant.2 (search rules) (search rules)
+    filled-length _ _ (set-filled _ _ c.loop-k.invariant.1 (search rules) c.last_byte.ensures (search rules)) (search rules) (search rules)
 
-pub returns : goal.returns
+pub returns-else-whole-bytes : goal.returns-else-whole-bytes
 unfolding packed
-returns c =
-    filled-length _ _ (set-filled _ _ c.loop-k.invariant.2 (search rules) c.last_byte.ensures (search rules)) (search rules) (search rules)
+returns-else-whole-bytes c = filled-length _ _ c.loop-k.invariant.1 (search rules) (search rules)

@@ -1,22 +1,13 @@
--- `own_numbers` meets its contract: what the loop has passed are the first numbers.
-use Prim.Native.Nat.{◌≤◌, ◌-◌}
-use mathlib.Core.Path.{◌≡◌, refl, sym, ◌∙◌}
-use mathlib.Core.Bool.{true}
-use lib.ListN.{length, take, length-set}
-use lib.Seq.{take_all}
-use Rattle.vocabulary.specs.Those.{those}
-use Rattle.vocabulary.proofs.Those.{those-list}
-use Rattle.person_list.specs.PersonList.{own_numbers}
-use native.Mathlib.Omega.{arith}
+-- `own_numbers` meets its contract: the list that has each place's number there is the list of the numbers.
+use Rattle.std.proofs.Common.{rules, arith, ℕ, ◌<◌, ◌≡◌, ◌∙◌, get_or, sym}
+use Rattle.std.proofs.lemmas.List.{ext_get_or}
+use Rattle.person_list.specs.PersonList.{own_numbers, nobody}
+use Rattle.person_list.proofs.PersonList.{own-length, own-entry}
 use Rattle.person_list.proofs.own_numbers.Goals as goal
 
-pub loop-s-init : goal.loop-s-init
-unfolding own_numbers those
-loop-s-init c =
-    (omega arith, refl, refl)
-
-pub loop-s-preserved : goal.loop-s-preserved
-unfolding own_numbers
-loop-s-preserved c =
-    let i = c.loop-s.invariant in
-    (omega arith, rw length-set i.1, those-list (λ s. true) c.loop-s.list c.loop-s.s c.loop-s.s (rw i.1 (omega arith)) i.2)
+pub returns : goal.returns
+returns c =
+    let made = c.from_fn.ensures.items in
+    let each : (i : ℕ) → i < 128 → get_or c.from_fn.result i nobody ≡ i = λ i h. let call = made.at i nobody h in search rules in
+    ext_get_or nobody c.from_fn.result (own_numbers 128) (made.long ∙ sym (own-length 128))
+    (λ i h. let inside : i < 128 = omega (arith, made.long, h) in each i inside ∙ sym (own-entry 128 i inside))

@@ -19,28 +19,28 @@ overflow_cast-result c =
     let l = lists-are _ _ (sym c.lists_fit.ensures ∙ c.if-not-lists_fit.false) in
     search (rules, l.0.0, l.1)
 
-pub returns-then-large-classes : goal.returns-then-large-classes
+pub returns-then-large-labels : goal.returns-then-large-labels
 unfolding served_answer
-returns-then-large-classes c =
+returns-then-large-labels c =
     let l = lists-are _ _ (sym c.lists_fit.ensures ∙ c.if-not-lists_fit.false) in
-    judged-large _ _ _ _ l.1 _ c.first_above_in-large.ensures (rw l.0.0 at c.if-large-classes.true)
+    judged-large _ _ _ _ l.1 _ c.first_above-large.ensures (rw l.0.0 at c.if-large-labels.true)
 
 pub returns-then-size-tail : goal.returns-then-size-tail
 unfolding served_answer
 returns-then-size-tail c =
     let l = lists-are _ _ (sym c.lists_fit.ensures ∙ c.if-not-lists_fit.false) in
-    judged-end _ _ _ _ l.1 c.first_above_in-large.ensures (rw l.0.0 at c.if-large-classes.false) c.if-size-tail.true
+    judged-end _ _ _ _ l.1 c.first_above-large.ensures (rw l.0.0 at c.if-large-labels.false) c.if-size-tail.true
 
-pub returns-then-by_pairs : goal.returns-then-by_pairs
+pub returns-then-register : goal.returns-then-register
 unfolding served_answer
-returns-then-by_pairs c =
+returns-then-register c =
     let l = lists-are _ _ (sym c.lists_fit.ensures ∙ c.if-not-lists_fit.false) in
-    let mode : c.args.by_pairs ≡ true = c.if-by_pairs.true in
-    judged-past _ _ _ _ l.1 c.first_above_in-large.ensures (rw l.0.0 at c.if-large-classes.false) c.if-size-tail.false (rw mode c.decide_by_pairs.ensures)
+    let mode : c.args.register.now.by_pairs ≡ true = c.if-register.true in
+    judged-past _ _ _ _ l.1 c.first_above-large.ensures (rw l.0.0 at c.if-large-labels.false) c.if-size-tail.false (rw mode c.decide_by_pairs.ensures)
 
 pub returns : goal.returns
 unfolding served_answer
 returns c =
     let l = lists-are _ _ (sym c.lists_fit.ensures ∙ c.if-not-lists_fit.false) in
-    let mode : c.args.by_pairs ≡ false = c.if-by_pairs.false in
-    judged-past _ _ _ _ l.1 c.first_above_in-large.ensures (rw l.0.0 at c.if-large-classes.false) c.if-size-tail.false (rw mode (c.decide_by_classes.ensures _ _))
+    let mode : c.args.register.now.by_pairs ≡ false = c.if-register.false in
+    judged-past _ _ _ _ l.1 c.first_above-large.ensures (rw l.0.0 at c.if-large-labels.false) c.if-size-tail.false (rw mode (c.decide_by_classes.ensures _ _))

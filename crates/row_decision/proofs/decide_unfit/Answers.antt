@@ -5,19 +5,19 @@ use Rattle.row_decision.proofs.decide_unfit.Goals as goal
 
 pub returns-then-length-gt512 : goal.returns-then-length-gt512
 returns-then-length-gt512 c =
-    judged-long _ _ _ _ (rw c.row_length-length.ensures at c.if-length-gt512.true)
+    judged-long _ _ _ _ (rw c.length-length.ensures at c.if-length-gt512.true)
 
 pub returns-then-large-length : goal.returns-then-large-length
 returns-then-large-length c =
-    let n = c.row_length-length.ensures in
-    judged-large _ _ _ _ (rw n at c.if-length-gt512.false) _ c.first_above_in-large.ensures (rw n at c.if-large-length.true)
+    let n = c.length-length.ensures in
+    judged-large _ _ _ _ (rw n at c.if-length-gt512.false) _ c.first_above-large.ensures (rw n at c.if-large-length.true)
 
 pub returns-then-tail-size : goal.returns-then-tail-size
 returns-then-tail-size c =
-    let n = c.row_length-length.ensures in
-    judged-past _ _ _ _ (rw n at c.if-length-gt512.false) c.first_above_in-large.ensures (rw n at c.if-large-length.false) c.if-tail-size.true refl
+    let n = c.length-length.ensures in
+    judged-past _ _ _ _ (rw n at c.if-length-gt512.false) c.first_above-large.ensures (rw n at c.if-large-length.false) c.if-tail-size.true refl
 
 pub returns : goal.returns
 returns c =
-    let n = c.row_length-length.ensures in
-    judged-end _ _ _ _ (rw n at c.if-length-gt512.false) c.first_above_in-large.ensures (rw n at c.if-large-length.false) c.if-tail-size.false
+    let n = c.length-length.ensures in
+    judged-end _ _ _ _ (rw n at c.if-length-gt512.false) c.first_above-large.ensures (rw n at c.if-large-length.false) c.if-tail-size.false

@@ -1,8 +1,8 @@
 -- `grant` meets its contract: the matrix with the row that the rules say where lists and folder fit, the matrix as it was elsewhere.
+use Rattle.std.proofs.Common.{sym, ◌∙◌}
 use Rattle.row_labels.proofs.Fitting.{fits-are}
 use Rattle.row_grant.proofs.Granted.{unfit-left}
 use Rattle.row_grant.proofs.Entered.{taken-entered}
-use mathlib.Core.Path.{sym, ◌∙◌}
 use Rattle.row_grant.proofs.grant.Goals as goal
 
 pub returns-then-not-fits : goal.returns-then-not-fits

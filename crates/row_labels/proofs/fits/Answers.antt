@@ -4,4 +4,4 @@ use Rattle.row_labels.proofs.fits.Goals as goal
 
 pub returns : goal.returns
 returns c =
-    rw c.lists_fit.ensures (fitting-by _ _ _)
+    rw (c.lists_fit.ensures, c.from.ensures) (fitting-by _ _ _)

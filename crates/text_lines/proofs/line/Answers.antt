@@ -1,47 +1,26 @@
--- `line` meets its contract: word, number and rest are printed one after the other, from the start of the text.
-use Prim.Native.Nat.{ℕ, ◌-◌, ◌≤◌}
-use native.Mathlib.Omega.{arith}
-use mathlib.Core.Path.{◌≡◌, refl}
-use mathlib.Core.Bool.{false, ◌||◌}
-use mathlib.Core.List.{List}
-use lib.Dec.{ltb}
-use lib.ListN.{length, replicate, length-replicate}
-use lib.Seq.{sets}
-use borrow.Author.Tests.{ltb-false}
-use borrow.Rule.Slice.PartMut.{put_mid}
-use Rattle.vocabulary.proofs.Bools.{neither}
-use Rattle.text_lines.specs.Text.{decimal}
+-- `line` meets its contract: word, number and rest are printed one after the other.
+use Rattle.std.proofs.Common.{arith, ◌≡◌, ◌+◌, length, length-append, refl}
+use Rattle.text_lines.specs.Text.{decimal, printed}
 use Rattle.text_lines.proofs.Decimal.{decimal-64}
-use Rattle.text_lines.proofs.Printed.{sets-copy, room-number, room-rest, line-text}
+use Rattle.text_lines.proofs.Printed.{bounded-whole}
 use Rattle.text_lines.proofs.line.Goals as goal
 
--- what the test leaves
-few : (word rest : List ℕ) → (ltb 64 (length word) || ltb 512 (length rest)) ≡ false → (length word ≤ 64) × (length rest ≤ 512)
-few word rest e =
-    let both = neither (ltb 64 (length word)) (ltb 512 (length rest)) e in
-    (ltb-false 64 (length word) both.0, ltb-false 512 (length rest) both.1)
+pub push_number-requires : goal.push_number-requires
+push_number-requires c =
+    rw (c.push_word.ensures, c.new-text.ensures) (omega (arith, decimal-64 c.args.number (omega arith)))
 
--- the word as it was copied
-stored : (word copied : List ℕ) → copied ≡ word → length word ≤ 64 → put_mid 0 (length word - 0) (replicate 4096 0) copied ≡ sets (replicate 4096 0) 0 word
-stored word copied e h = sets-copy (replicate 4096 0) word copied e (rw (length-replicate {A = ℕ} 4096 0) (omega arith))
+pub push_rest-requires : goal.push_rest-requires
+push_rest-requires c =
+    rw (c.push_number.ensures, c.push_word.ensures, c.new-text.ensures, length-append) (omega (arith, decimal-64 c.args.number (omega arith)))
 
-pub put_number-end-requires : goal.put_number-end-requires
-put_number-end-requires c =
-    let a = c.args in
-    let left = few a.word.now a.rest.now c.if-word-rest.false in
-    room-number a.word.now (decimal a.number) _ left.0 (decimal-64 a.number (omega arith)) (stored a.word.now _ c.copy_from_slice.ensures.after left.0)
-
-pub put_rest-len-requires : goal.put_rest-len-requires
-put_rest-len-requires c =
-    let a = c.args in
-    let left = few a.word.now a.rest.now c.if-word-rest.false in
-    room-rest a.word.now (decimal a.number) _ left.0 (decimal-64 a.number (omega arith)) (stored a.word.now _ c.copy_from_slice.ensures.after left.0)
-    a.rest.now _ _ left.1 c.put_number-end.ensures
+pub push-requires : goal.push-requires
+push-requires c =
+    let before : length c.push_number.new.self ≡ length c.args.word.now + length (decimal c.args.number) =
+    rw (c.push_number.ensures, c.push_word.ensures, c.new-text.ensures, length-append) refl in
+    omega (arith, c.push_rest.ensures.1, before, decimal-64 c.args.number (omega arith))
 
 pub returns : goal.returns
+unfolding printed
 returns c =
-    let a = c.args in
-    let left = few a.word.now a.rest.now c.if-word-rest.false in
-    rw c.if-word-rest.false
-    (line-text a.word.now a.number a.rest.now _ _ _ _ _ _ (refl, stored a.word.now _ c.copy_from_slice.ensures.after left.0)
-    c.put_number-end.ensures c.put_rest-len.ensures)
+    rw (bounded-whole c.args.word.now c.args.number c.args.rest.now (omega arith) (omega arith), c.push.ensures, c.push_rest.ensures.0, c.push_number.ensures, c.push_word.ensures, c.new-text.ensures)
+    refl

@@ -3,8 +3,8 @@ use Rattle.unpacking.proofs.Outcomes.{unpack-unequal, unpack-unused, unpack-unpa
 use borrow.Author.Rules.{rules}
 use Rattle.unpacking.proofs.unpack.Goals as goal
 
-pub returns-then-bytes_for-packed : goal.returns-then-bytes_for-packed
-returns-then-bytes_for-packed c =
+pub returns-then-div_ceil-packed : goal.returns-then-div_ceil-packed
+returns-then-div_ceil-packed c =
     unpack-unequal _ _ (search rules)
 
 pub returns-then-unused_bits-ne0 : goal.returns-then-unused_bits-ne0

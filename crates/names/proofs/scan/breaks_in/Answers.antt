@@ -1,22 +1,17 @@
--- `breaks_in` meets its contract. The invariant: n, and the bytes 10 from i on, are all of them.
-use Prim.Native.Nat.{◌+◌, ◌-◌, ◌≤◌}
-use native.Mathlib.Nat.{zero-add}
-use native.Mathlib.Omega.{arith}
-use mathlib.Core.Path.{◌≡◌}
-use lib.ListN.{drop}
-use Rattle.line_numbers.specs.LineNumber.{ended}
-use Rattle.names.proofs.Passing.{ended-length, ended-step, one-most}
-use borrow.Author.Rules.{rules}
+-- `breaks_in` meets its contract. The invariant: n, and the bytes 10 that come next, are all of them.
+use Rattle.std.proofs.Common.{arith, ◌∙◌}
+use Rattle.names.proofs.Passing.{byte-break, ended-length, ended-step, one-most}
 use Rattle.names.proofs.scan.breaks_in.Goals as goal
 
 pub overflow_add-n : goal.overflow_add-n
 overflow_add-n c =
-    record { fits = omega (arith, one-most _ c.by_break-n.ensures, c.loop-i.invariant.0, c.loop-i.invariant.1) }
+    record { fits = omega (arith, one-most _ (c.from-n.ensures ∙ byte-break _), c.loop-b.invariant.0) }
 
-pub loop-i-preserved : goal.loop-i-preserved
-loop-i-preserved c =
-    (search rules, omega (arith, one-most _ c.by_break-n.ensures, c.loop-i.invariant.1), ended-step _ c.loop-i.i _ (omega (arith, c.loop-i-test.true, c.requires)) c.by_break-n.ensures c.loop-i.invariant.2)
+pub loop-b-preserved : goal.loop-b-preserved
+loop-b-preserved c =
+    let here = c.from-n.ensures ∙ byte-break _ in
+    (omega (arith, one-most _ here, c.loop-b.invariant.0), ended-step _ c.loop-b.b-index _ (omega (arith, c.told-block)) here c.loop-b.invariant.1)
 
 pub returns : goal.returns
 returns c =
-    ended-length _ c.loop-i.i _ (omega (arith, c.loop-i-test.false, c.requires)) c.loop-i.invariant.2
+    ended-length _ c.loop-b.b-index _ (omega (arith, c.told-block)) c.loop-b.invariant.1
