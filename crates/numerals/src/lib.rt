@@ -44,11 +44,12 @@ fn number_of(digits: &[u8]) -> Option<u16>
     u16::try_from(value_of(digits)).ok()
 }
 
-// Reads the number at a place: its value, and the place after it.
+// Reads the number at a place: its value, and the place after it. No number has six digits, so at most six bytes are looked at.
 pub fn read_number(text: &[u8], place: usize) -> Option<(u16, usize)>
     ensures { numeral_of result ≡ number_at text.now place }
 {
-    let digits = digits_of(text.get(place..)?);
+    let rest = text.get(place..)?;
+    let digits = digits_of(&rest[..rest.len().min(6)]);
     let value = number_of(digits)?;
     Some((value, place + digits.len()))
 }
