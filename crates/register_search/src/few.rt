@@ -7,6 +7,7 @@ ghost use Rattle.register.specs.Register.{earlier, later};
 ghost use Rattle.register_search.specs.Folders.{register_in};
 
 use crate::folders::Folders;
+use ids::ClientNo;
 
 // Whether `f` differs in class alone from an earlier folder, where no earlier one does, by the mark in its client's place. Without one, no earlier
 // folder is of its client; one that a folder of its client left stands for all of them; after another client's, all earlier ones are searched, and
@@ -18,7 +19,7 @@ fn clashes_by(folders: Folders, mark: usize, f: usize) -> bool
     if mark == 0 {
         return false;
     }
-    if folders.labels.clients[mark - 1] == folders.labels.clients[f] {
+    if ClientNo(folders.labels.clients[mark - 1]) == ClientNo(folders.labels.clients[f]) {
         return folders.clashes(mark, f);
     }
     if f < 8 {

@@ -60,7 +60,7 @@ impl<'a> Folders<'a> {
         requires { (f < length self.labels.classes.now) × (past ≤ f) }
         ensures { result ≡ clash self.entry.labels.classes.now f past }
     {
-        past != 0 && self.labels.classes[past - 1] != self.labels.classes[f]
+        past != 0 && ClassNo(self.labels.classes[past - 1]) != ClassNo(self.labels.classes[f])
     }
 
     // The first folder that differs in class alone from an earlier one, by plain search from a folder on. No folder that the loop has passed does.

@@ -57,12 +57,12 @@ impl Table {
         ensures { IfSome result (λ found. found.0 ≡ past_last (of_client folders.entry.labels.clients.now (client_of (register_in folders.entry) f)) f) }
     {
         let clients = folders.labels.clients;
-        let client = clients[f];
+        let client = ClientNo(clients[f]);
         let mut left = steps;
         let mut past = usize::from(self.heads[s]);
         while past > 0 {
             let g = past - 1;
-            if clients[g] == client {
+            if ClientNo(clients[g]) == client {
                 return Some((past, left));
             }
             left = left.checked_sub(1)?;

@@ -3,7 +3,7 @@ use Rattle.register_search.proofs.Chains.{Walking}
 use Rattle.register_search.proofs.table.Table.last_of_client.Given as goal
 
 abbrev pub invariant-loop-past : goal.invariant-loop-past
-invariant-loop-past l = Walking l.folders.labels.clients.now l.client l.f l.past
+invariant-loop-past l = Walking l.folders.labels.clients.now l.client.0 l.f l.past
 
 abbrev pub decreases-loop-past : goal.decreases-loop-past
 decreases-loop-past l = l.past
